@@ -35,4 +35,4 @@ pub record RealClosedField (R : Type 0) : Type 0 where
   pub sign-add : (x y : R) → sign x ≡ Pos → sign y ≡ Pos → sign (add x y) ≡ Pos
   pub sign-mul : (x y : R) → sign (mul x y) ≡ times (sign x) (sign y)
   pub root : (cs : List R) (a b : R) → sign (add b (neg a)) ≡ Pos → sign (horner zero add mul cs a) ≡ Neg → sign (horner zero add mul cs b) ≡ Pos →
-    (c : R) × (sign (add c (neg a)) ≡ Pos) × (sign (add b (neg c)) ≡ Pos) × (horner zero add mul cs c ≡ zero)
+      (c : R) × (sign (add c (neg a)) ≡ Pos) × (sign (add b (neg c)) ≡ Pos) × (horner zero add mul cs c ≡ zero)

@@ -1,0 +1,2 @@
+-- Lemmas on texts of numbers.
+pub mod Scanned

@@ -1,0 +1,2 @@
+-- Lemmas on what words read as.
+pub mod Words
