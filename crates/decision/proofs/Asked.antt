@@ -29,7 +29,7 @@ unfolding sameBy
 sameBy-refl g h [] = tt
 sameBy-refl g h (p ∷ ps) = both-hold (g p p) (sameBy g ps ps) (h p) (sameBy-refl g h ps)
 
-same-refl : (n : ℕ) (p : Poly) → T (same n p p)
+pub same-refl : (n : ℕ) (p : Poly) → T (same n p p)
 unfolding same
 same-refl zero p = subst (λ z. T (isZeroNumber z)) (sym (+ℤ-invr (theNumber p))) tt
 same-refl (suc n) p = sameBy-refl (same n) (same-refl n) (coefs p)

@@ -1,0 +1,2 @@
+-- Lemmas on an arena's numbers.
+pub mod Stores

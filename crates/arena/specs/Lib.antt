@@ -1,0 +1,2 @@
+-- How an arena's numbers change.
+pub mod Growth

@@ -1,0 +1,5 @@
+// Trees of questions in lent memory.
+pub mod collect;
+pub mod follow;
+pub mod questions;
+pub mod tree;
