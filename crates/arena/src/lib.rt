@@ -1,2 +1,4 @@
 // Lent numbers as an arena: what is stored lies below a mark, is never changed, and goes when the mark is taken back.
+#![tactic(auto)]
+
 pub mod arena;

@@ -1,25 +1,27 @@
 // Sentences decided by elimination of their quantifiers: the definitions stand in specs/, and each function below has a theorem of specs/Theorems.antt for its contract.
+#![tactic(auto)]
+
 ghost use Rattle.decision.specs.Theorems.{Main, OneQuantifier, AnswersRight};
 
 use field::real_closed::RealClosed;
 
 // Every sentence that is answered yes holds, and every one that is answered no doesn't.
 pub fn whole_stands<F: RealClosed>() -> u8
-    ensures { Main field }
+    ensures { Main F.field }
 {
     0
 }
 
 // The same of one quantifier.
 pub fn one_quantifier_stands<F: RealClosed>() -> u8
-    ensures { OneQuantifier field }
+    ensures { OneQuantifier F.field }
 {
     0
 }
 
 // The same of words and the answers to them.
 pub fn answers_stand<F: RealClosed>() -> u8
-    ensures { AnswersRight field }
+    ensures { AnswersRight F.field }
 {
     0
 }

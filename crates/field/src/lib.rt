@@ -1,3 +1,5 @@
 // Signs, real closed fields, and sentences about them. Rests on nothing but std.
+#![tactic(auto)]
+
 pub mod real_closed;
 pub mod sign;

@@ -8,7 +8,7 @@ pub trait RealClosed {
 
 // Every real closed field has the laws of specs/Laws.antt.
 pub fn laws_stand<F: RealClosed>() -> u8
-    ensures { FieldLaws field }
+    ensures { FieldLaws F.field }
 {
     0
 }

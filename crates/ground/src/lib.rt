@@ -1,4 +1,6 @@
 // Sentences without quantifiers: read, evaluated in whole numbers, and answered.
+#![tactic(auto)]
+
 pub mod ground;
 pub mod number;
 pub mod outline;

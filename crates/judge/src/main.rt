@@ -1,4 +1,6 @@
 // judge: reads the words of one sentence from standard input, numbers parted by spaces or line ends, and prints whether it holds.
+#![tactic(auto)]
+
 use std::io::Read;
 use word_text::answer::{line, verdict_of_text};
 

@@ -1,4 +1,6 @@
 // Sentences as words with the answers that judge owes: a table of cases, run as tests.
+#![tactic(auto)]
+
 #[cfg(test)]
 mod tests {
     use ground::verdict::Verdict;

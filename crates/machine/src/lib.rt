@@ -1,4 +1,6 @@
 // The tree of a table made step by step: the definitions stand in specs/, and each function below has a theorem of specs/Theorems.antt for its contract.
+#![tactic(auto)]
+
 ghost use Rattle.machine.specs.Theorems.{MakesTable, Ends, LeavesApart, Counts, Collects, GivesUp, EliminatesBySteps, FirstSuffice, StacksMirror};
 
 pub fn table_made_stands() -> u8

@@ -1,4 +1,6 @@
 // Stored polynomials: each monomial is one number, its coefficient times 2^20 and its key, and the keys rise.
+#![tactic(auto)]
+
 pub mod equality;
 pub mod place;
 pub mod stretch;

@@ -1,4 +1,6 @@
 // Trees of questions in lent memory.
+#![tactic(auto)]
+
 pub mod collect;
 pub mod follow;
 pub mod questions;

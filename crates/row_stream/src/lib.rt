@@ -1,4 +1,6 @@
 // Chains of tables that take rows of signs one by one, and hand them on to a sink.
+#![tactic(auto)]
+
 pub mod answer;
 pub mod cell;
 pub mod chain;

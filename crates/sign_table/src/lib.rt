@@ -1,4 +1,6 @@
 // Tables of signs of polynomials: the definitions stand in specs/, and each function below has a theorem of specs/Theorems.antt for its contract.
+#![tactic(auto)]
+
 ghost use Rattle.sign_table.specs.Theorems.{TableDepth, TableRight, RightCovers, RootsExactly};
 
 use field::real_closed::RealClosed;
@@ -10,19 +12,19 @@ pub fn table_depth_stands() -> u8
 }
 
 pub fn table_right_stands<F: RealClosed>() -> u8
-    ensures { TableRight field }
+    ensures { TableRight F.field }
 {
     0
 }
 
 pub fn right_covers_stands<F: RealClosed>() -> u8
-    ensures { RightCovers field }
+    ensures { RightCovers F.field }
 {
     0
 }
 
 pub fn roots_exactly_stands<F: RealClosed>() -> u8
-    ensures { RootsExactly field }
+    ensures { RootsExactly F.field }
 {
     0
 }

@@ -1,4 +1,6 @@
 // The machine that makes the tree of a table, over lent memory.
+#![tactic(auto)]
+
 pub mod arrays;
 pub mod below;
 pub mod equality;

@@ -1,4 +1,6 @@
 // Polynomials as lists of monomials with keys: their definitions stand in specs/, and each function below has a theorem of specs/Theorems.antt for its contract.
+#![tactic(auto)]
+
 ghost use Rattle.terms.specs.Theorems.{FlatLaws, CanonLaws, FlatOperationLaws, FlatLeadingLaws, FlatModestLaws, FlatDivisionLaws, SizeLaws, CellLaws};
 
 pub fn flat_stands() -> u8

@@ -1,4 +1,6 @@
 // The reader of texts: one pass, a method for each level of binding.
+#![tactic(auto)]
+
 pub mod character;
 pub mod formula;
 pub mod piece;

@@ -1,4 +1,6 @@
 // Sentences as words: which slices of numbers are sentences, and a reader of their parts.
+#![tactic(auto)]
+
 pub mod kind;
 pub mod reader;
 pub mod sentence;
