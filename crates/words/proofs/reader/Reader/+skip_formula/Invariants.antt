@@ -1,4 +1,4 @@
 use Rattle.words.proofs.reader.Reader.+skip_formula.Given as goal
 
-abbrev pub decreases-skip-formula : goal.decreases-skip-formula
-decreases-skip-formula l = l.depth
+abbrev pub decreases-skip_formula : goal.decreases-skip_formula
+decreases-skip_formula l = l.depth
