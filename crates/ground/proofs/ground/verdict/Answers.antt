@@ -5,15 +5,15 @@ use Rattle.words.specs.Words.{count_of}
 use Rattle.ground.proofs.Followed.{ground-verdict, quantified-verdict, no-count-verdict}
 use Rattle.ground.proofs.ground.verdict.Goals as goal
 
-pub returns-in-default : goal.returns-in-default
-returns-in-default c = no-count-verdict c.args.words.now c.in-default.ensures
+pub returns-in_default : goal.returns-in_default
+returns-in_default c = no-count-verdict c.args.words.now c.in_default.ensures
 
 pub returns-then-count-ne0 : goal.returns-then-count-ne0
 returns-then-count-ne0 c =
-    quantified-verdict c.args.words.now _ (sym c.if-not-is-sentence.ensures) _ c.if-count-ne0.true c.in-Ok.ensures
+    quantified-verdict c.args.words.now _ (sym c.if-not-is_sentence.ensures) _ c.if-count-ne0.true c.in-Ok.ensures
 
 pub returns : goal.returns
 returns c =
     let counted : Read 0 c.count.new.self.rest.now ≡ meant count_of c.args.words.now =
     ap (λ n. Read n c.count.new.self.rest.now) (sym c.if-count-ne0.false) ∙ c.in-Ok.ensures in
-    c.verdict-of-body.ensures ∙ ground-verdict c.args.words.now c.count.new.self.rest.now (sym c.if-not-is-sentence.ensures) counted
+    c.verdict_of_body.ensures ∙ ground-verdict c.args.words.now c.count.new.self.rest.now (sym c.if-not-is_sentence.ensures) counted

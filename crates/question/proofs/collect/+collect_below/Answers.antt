@@ -8,9 +8,9 @@ use Rattle.question.proofs.Nodes.{length-below}
 use Rattle.question.proofs.Collected.{collects-none, collects-beyond, refused-above, refused-at, refused-below, collects-question}
 use Rattle.question.proofs.collect.+collect_below.Goals as goal
 
-pub returns-in-default : goal.returns-in-default
-returns-in-default t c = record {
-  stands = collects-none _ _ _ _ (length c.args.found.now.cells.now) c.in-default.not-Question;
+pub returns-in_default : goal.returns-in_default
+returns-in_default t c = record {
+  stands = collects-none _ _ _ _ (length c.args.found.now.cells.now) c.in_default.not-Question;
   long = refl;
   lent = refl;
 }
@@ -29,8 +29,8 @@ returns-then-i-min t c =
       lent = refl;
     }
 
-pub returns-in-err-collect-below : goal.returns-in-err-collect-below
-returns-in-err-collect-below t c =
+pub returns-in_err-collect_below : goal.returns-in_err-collect_below
+returns-in_err-collect_below t c =
     let top = c.args.questions.now.arena.top in
     let cells = take top c.args.questions.now.arena.cells.now in
     let i = c.in-Question.i in
@@ -39,19 +39,19 @@ returns-in-err-collect-below t c =
     let room = length c.args.found.now.cells.now in
     let before = take c.args.found.now.top c.args.found.now.cells.now in
     let read : c.question-question.result ≡ node_at cells i = c.question-question.ensures in
-    let later = (take c.collect-below.new.found.top c.collect-below.new.found.cells.now) in
-    let x = c.in-err-collect-below.field-0.0 in
+    let later = (take c.collect_below.new.found.top c.collect_below.new.found.cells.now) in
+    let x = c.in_err-collect_below.field-0.0 in
     let stopped : Collects cells i (node_at cells i).above before (Err x) later room =
-    subst (λ q. Collects cells i q.above before (Err x) later room) read c.in-err-collect-below.ensures.stands in
-    let p = err_from_is_err_and c.from-residual.result c.from-residual.ensures.1 in
+    subst (λ q. Collects cells i q.above before (Err x) later room) read c.in_err-collect_below.ensures.stands in
+    let p = err_from_is_err_and c.from_residual.result c.from_residual.ensures.1 in
     record {
       stands = subst (λ u. Collects cells limit c.args.tree before u later room) (sym p.1) (refused-above cells limit c.args.tree before room i is later p.0 stopped later);
-      long = c.in-err-collect-below.ensures.long;
+      long = c.in_err-collect_below.ensures.long;
       lent = search rules;
     }
 
-pub returns-in-err-collect-below-2 : goal.returns-in-err-collect-below-2
-returns-in-err-collect-below-2 t c =
+pub returns-in_err-collect_below-2 : goal.returns-in_err-collect_below-2
+returns-in_err-collect_below-2 t c =
     let top = c.args.questions.now.arena.top in
     let cells = take top c.args.questions.now.arena.cells.now in
     let i = c.in-Question.i in
@@ -60,22 +60,22 @@ returns-in-err-collect-below-2 t c =
     let room = length c.args.found.now.cells.now in
     let before = take c.args.found.now.top c.args.found.now.cells.now in
     let read : c.question-question.result ≡ node_at cells i = c.question-question.ensures in
-    let above = (take c.collect-below.new.found.top c.collect-below.new.found.cells.now) in
-    let one : Collects {E = Full} cells i (node_at cells i).above before (Ok tt) above room = subst (λ q. Collects {E = Full} cells i q.above before (Ok tt) above room) read c.in-ok-collect-below.ensures.stands in
-    let long-one : length c.collect-below.new.found.cells.now ≡ room = c.in-ok-collect-below.ensures.long in
-    let later = (take c.collect-below-2.new.found.top c.collect-below-2.new.found.cells.now) in
-    let x = c.in-err-collect-below-2.field-0.0 in
+    let above = (take c.collect_below.new.found.top c.collect_below.new.found.cells.now) in
+    let one : Collects {E = Full} cells i (node_at cells i).above before (Ok tt) above room = subst (λ q. Collects {E = Full} cells i q.above before (Ok tt) above room) read c.in_ok-collect_below.ensures.stands in
+    let long-one : length c.collect_below.new.found.cells.now ≡ room = c.in_ok-collect_below.ensures.long in
+    let later = (take c.collect_below-2.new.found.top c.collect_below-2.new.found.cells.now) in
+    let x = c.in_err-collect_below-2.field-0.0 in
     let stopped : Collects cells i (node_at cells i).at above (Err x) later room =
-    subst₂ (λ q n. Collects cells i q.at above (Err x) later n) read long-one c.in-err-collect-below-2.ensures.stands in
-    let p = err_from_is_err_and c.from-residual-in-err-collect-below-2.result c.from-residual-in-err-collect-below-2.ensures.1 in
+    subst₂ (λ q n. Collects cells i q.at above (Err x) later n) read long-one c.in_err-collect_below-2.ensures.stands in
+    let p = err_from_is_err_and c.from_residual-in_err-collect_below-2.result c.from_residual-in_err-collect_below-2.ensures.1 in
     record {
       stands = subst (λ u. Collects cells limit c.args.tree before u later room) (sym p.1) (refused-at cells limit c.args.tree before room i is above one later p.0 stopped later);
-      long = c.in-err-collect-below-2.ensures.long ∙ long-one;
+      long = c.in_err-collect_below-2.ensures.long ∙ long-one;
       lent = search rules;
     }
 
-pub returns-in-err-collect-below-3 : goal.returns-in-err-collect-below-3
-returns-in-err-collect-below-3 t c =
+pub returns-in_err-collect_below-3 : goal.returns-in_err-collect_below-3
+returns-in_err-collect_below-3 t c =
     let top = c.args.questions.now.arena.top in
     let cells = take top c.args.questions.now.arena.cells.now in
     let i = c.in-Question.i in
@@ -84,21 +84,21 @@ returns-in-err-collect-below-3 t c =
     let room = length c.args.found.now.cells.now in
     let before = take c.args.found.now.top c.args.found.now.cells.now in
     let read : c.question-question.result ≡ node_at cells i = c.question-question.ensures in
-    let above = (take c.collect-below.new.found.top c.collect-below.new.found.cells.now) in
-    let one : Collects {E = Full} cells i (node_at cells i).above before (Ok tt) above room = subst (λ q. Collects {E = Full} cells i q.above before (Ok tt) above room) read c.in-ok-collect-below.ensures.stands in
-    let long-one : length c.collect-below.new.found.cells.now ≡ room = c.in-ok-collect-below.ensures.long in
-    let at = (take c.collect-below-2.new.found.top c.collect-below-2.new.found.cells.now) in
+    let above = (take c.collect_below.new.found.top c.collect_below.new.found.cells.now) in
+    let one : Collects {E = Full} cells i (node_at cells i).above before (Ok tt) above room = subst (λ q. Collects {E = Full} cells i q.above before (Ok tt) above room) read c.in_ok-collect_below.ensures.stands in
+    let long-one : length c.collect_below.new.found.cells.now ≡ room = c.in_ok-collect_below.ensures.long in
+    let at = (take c.collect_below-2.new.found.top c.collect_below-2.new.found.cells.now) in
     let two : Collects {E = Full} cells i (node_at cells i).at above (Ok tt) at room =
-    subst₂ (λ q n. Collects {E = Full} cells i q.at above (Ok tt) at n) read long-one c.in-ok-collect-below-2.ensures.stands in
-    let long-two : length c.collect-below-2.new.found.cells.now ≡ room = c.in-ok-collect-below-2.ensures.long ∙ long-one in
-    let later = (take c.collect-below-3.new.found.top c.collect-below-3.new.found.cells.now) in
-    let x = c.in-err-collect-below-3.field-0.0 in
+    subst₂ (λ q n. Collects {E = Full} cells i q.at above (Ok tt) at n) read long-one c.in_ok-collect_below-2.ensures.stands in
+    let long-two : length c.collect_below-2.new.found.cells.now ≡ room = c.in_ok-collect_below-2.ensures.long ∙ long-one in
+    let later = (take c.collect_below-3.new.found.top c.collect_below-3.new.found.cells.now) in
+    let x = c.in_err-collect_below-3.field-0.0 in
     let stopped : Collects cells i (node_at cells i).below at (Err x) later room =
-    subst₂ (λ q n. Collects cells i q.below at (Err x) later n) read long-two c.in-err-collect-below-3.ensures.stands in
-    let p = err_from_is_err_and c.from-residual-in-err-collect-below-3.result c.from-residual-in-err-collect-below-3.ensures.1 in
+    subst₂ (λ q n. Collects cells i q.below at (Err x) later n) read long-two c.in_err-collect_below-3.ensures.stands in
+    let p = err_from_is_err_and c.from_residual-in_err-collect_below-3.result c.from_residual-in_err-collect_below-3.ensures.1 in
     record {
       stands = subst (λ u. Collects cells limit c.args.tree before u later room) (sym p.1) (refused-below cells limit c.args.tree before room i is above one at two later p.0 stopped later);
-      long = c.in-err-collect-below-3.ensures.long ∙ long-two;
+      long = c.in_err-collect_below-3.ensures.long ∙ long-two;
       lent = search rules;
     }
 
@@ -112,17 +112,17 @@ returns t c =
     let room = length c.args.found.now.cells.now in
     let before = take c.args.found.now.top c.args.found.now.cells.now in
     let read : c.question-question.result ≡ node_at cells i = c.question-question.ensures in
-    let above = (take c.collect-below.new.found.top c.collect-below.new.found.cells.now) in
-    let one : Collects {E = Full} cells i (node_at cells i).above before (Ok tt) above room = subst (λ q. Collects {E = Full} cells i q.above before (Ok tt) above room) read c.in-ok-collect-below.ensures.stands in
-    let long-one : length c.collect-below.new.found.cells.now ≡ room = c.in-ok-collect-below.ensures.long in
-    let at = (take c.collect-below-2.new.found.top c.collect-below-2.new.found.cells.now) in
+    let above = (take c.collect_below.new.found.top c.collect_below.new.found.cells.now) in
+    let one : Collects {E = Full} cells i (node_at cells i).above before (Ok tt) above room = subst (λ q. Collects {E = Full} cells i q.above before (Ok tt) above room) read c.in_ok-collect_below.ensures.stands in
+    let long-one : length c.collect_below.new.found.cells.now ≡ room = c.in_ok-collect_below.ensures.long in
+    let at = (take c.collect_below-2.new.found.top c.collect_below-2.new.found.cells.now) in
     let two : Collects {E = Full} cells i (node_at cells i).at above (Ok tt) at room =
-    subst₂ (λ q n. Collects {E = Full} cells i q.at above (Ok tt) at n) read long-one c.in-ok-collect-below-2.ensures.stands in
-    let long-two : length c.collect-below-2.new.found.cells.now ≡ room = c.in-ok-collect-below-2.ensures.long ∙ long-one in
-    let below = (take c.collect-below-3.new.found.top c.collect-below-3.new.found.cells.now) in
+    subst₂ (λ q n. Collects {E = Full} cells i q.at above (Ok tt) at n) read long-one c.in_ok-collect_below-2.ensures.stands in
+    let long-two : length c.collect_below-2.new.found.cells.now ≡ room = c.in_ok-collect_below-2.ensures.long ∙ long-one in
+    let below = (take c.collect_below-3.new.found.top c.collect_below-3.new.found.cells.now) in
     let three : Collects {E = Full} cells i (node_at cells i).below at (Ok tt) below room =
-    subst₂ (λ q n. Collects {E = Full} cells i q.below at (Ok tt) below n) read long-two c.in-ok-collect-below-3.ensures.stands in
-    let long-three : length c.collect-below-3.new.found.cells.now ≡ room = c.in-ok-collect-below-3.ensures.long ∙ long-two in
+    subst₂ (λ q n. Collects {E = Full} cells i q.below at (Ok tt) below n) read long-two c.in_ok-collect_below-3.ensures.stands in
+    let long-three : length c.collect_below-3.new.found.cells.now ≡ room = c.in_ok-collect_below-3.ensures.long ∙ long-two in
     let later = (take c.note.new.found.top c.note.new.found.cells.now) in
     let noted : Notes c.note.result (node_at cells i).polynomial below room later =
     subst₂ (λ q n. Notes c.note.result q.polynomial below n later) read long-three c.note.ensures.stands in

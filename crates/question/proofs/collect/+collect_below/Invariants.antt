@@ -1,4 +1,4 @@
 use Rattle.question.proofs.collect.+collect_below.Given as goal
 
-abbrev pub decreases-collect-below : goal.decreases-collect-below
-decreases-collect-below l = l.limit
+abbrev pub decreases-collect_below : goal.decreases-collect_below
+decreases-collect_below l = l.limit

@@ -31,6 +31,6 @@ pub returns : goal.returns
 returns t c =
     let cells = take c.args.questions.now.arena.top c.args.questions.now.arena.cells.now in
     let read : c.question-question.result ≡ node_at cells c.in-Question.i = c.question-question.ensures in
-    follows-question cells c.args.limit c.args.tree c.args.signs.now c.in-Question.i c.in-Question.is c.sign-at.result
-    (c.sign-at.ensures ∙ ap (λ q. get_or c.args.signs.now q.polynomial Zero) read) c.follow-below.result
-    (subst (λ u. Follows cells c.in-Question.i u c.args.signs.now c.follow-below.result) (c.end-next.ensures ∙ ap (λ q. chosen q c.sign-at.result) read) c.follow-below.ensures)
+    follows-question cells c.args.limit c.args.tree c.args.signs.now c.in-Question.i c.in-Question.is c.sign_at.result
+    (c.sign_at.ensures ∙ ap (λ q. get_or c.args.signs.now q.polynomial Zero) read) c.follow_below.result
+    (subst (λ u. Follows cells c.in-Question.i u c.args.signs.now c.follow_below.result) (c.end-next.ensures ∙ ap (λ q. chosen q c.sign_at.result) read) c.follow_below.ensures)

@@ -12,8 +12,8 @@ pub loop-place-init : goal.loop-place-init
 loop-place-init c =
     subst (Going (scaled_by c.args.by c.args.polynomial) (written c.args.list.now) 0 0) (sym c.clear.ensures) (begun (scaled_by c.args.by c.args.polynomial) (written c.args.list.now))
 
-pub merge-next-place-requires : goal.merge-next-place-requires
-merge-next-place-requires c =
+pub merge_next-place-requires : goal.merge_next-place-requires
+merge_next-place-requires c =
     record {
       fits = c.requires;
       left =
@@ -25,10 +25,10 @@ merge-next-place-requires c =
 pub loop-place-preserved : goal.loop-place-preserved
 loop-place-preserved c =
     going_on (scaled_by c.args.by c.args.polynomial) (written c.args.list.now) c.loop-place.place.left c.loop-place.place.right (written c.loop-place.out) _ _ _
-    c.loop-place.invariant c.merge-next-place.ensures
+    c.loop-place.invariant c.merge_next-place.ensures
 
 pub loop-place-smaller : goal.loop-place-smaller
-loop-place-smaller c = omega (arith, c.merge-next-place.ensures.further, c.merge-next-place.ensures.left-within, c.merge-next-place.ensures.right-within)
+loop-place-smaller c = omega (arith, c.merge_next-place.ensures.further, c.merge_next-place.ensures.left-within, c.merge_next-place.ensures.right-within)
 
 pub append-requires : goal.append-requires
 append-requires c =

@@ -54,8 +54,8 @@ returns-then-right-left c =
     (c.push-then-right-left.ensures ∙ ap (λ m. written c.args.out.now ++ m ∷ []) c.term-right.ensures) c.requires.left j
     (omega (arith, ap (λ m. m.key) c.scaled-left.ensures, ap (λ m. m.key) c.term-right.ensures, c.if-right-left.true))
 
-pub push-sum-requires : goal.push-sum-requires
-push-sum-requires c =
+pub push_sum-requires : goal.push_sum-requires
+push_sum-requires c =
     let j : c.args.place.right < length (written c.args.list.now) = omega (arith, c.len.ensures, c.if-place-len.false, c.requires.right) in
     let f = pair_fits (scaled_by c.args.by c.args.polynomial) (written c.args.list.now) c.args.place.left c.args.place.right c.requires.fits c.requires.left j in
     let Small : ℕ → Type 0 = λ n. n < 2 ^ 63 in
@@ -69,7 +69,7 @@ pub returns : goal.returns
 returns c =
     let j : c.args.place.right < length (written c.args.list.now) = omega (arith, c.len.ensures, c.if-place-len.false, c.requires.right) in
     merged-both (scaled_by c.args.by c.args.polynomial) (written c.args.list.now) c.args.place.left c.args.place.right (written c.args.out.now) c.requires.short _
-    (c.push-sum.ensures ∙
+    (c.push_sum.ensures ∙
     ap (λ m. written c.args.out.now ++ put_term m [])
     (ap₂ monomial (ap (λ m. m.key) c.scaled-left.ensures) (ap₂ ◌+ℤ◌ (ap (λ m. m.times) c.scaled-left.ensures) (ap (λ m. m.times) c.term-right.ensures))))
     c.requires.left j (omega (arith, ap (λ m. m.key) c.scaled-left.ensures, ap (λ m. m.key) c.term-right.ensures, c.if-left-right.false, c.if-right-left.false))

@@ -8,8 +8,8 @@ use Rattle.wide.proofs.Bounds.{from-size, size_fits, mag-small, zero_bits, other
 use Rattle.wide.proofs.Merging.{put-none, put_one}
 use Rattle.wide.proofs.merge.push_sum.Goals as goal
 
-pub overflow-add-sum : goal.overflow-add-sum
-overflow-add-sum c =
+pub overflow_add-sum : goal.overflow_add-sum
+overflow_add-sum c =
     let f : SFits w64 c.args.left.coefficient = search rules in
     let g : SFits w64 c.args.right.coefficient = search rules in
     subst (SFits w64) (sym (ap₂ ◌+ℤ◌ (to_z-of_z w64 _ f) (to_z-of_z w64 _ g))) (size_fits _ c.requires.size)

@@ -15,7 +15,7 @@ factors : (c : goal.After-coefficient) →
     pos (c.key-key.result / c.args.place) *ℤ c.coefficient.result
 factors c =
     let low : c.key-key.result / c.args.place < 2 ^ 63 = omega (arith, div-le_self c.key-key.result c.args.place, c.key-key.ensures.bound) in
-    ap₂ ◌*ℤ◌ (to_z_pos w64 (c.key-key.result / c.args.place) low) (from_bits c.coefficient.result c.coefficient.type-inv)
+    ap₂ ◌*ℤ◌ (to_z_pos w64 (c.key-key.result / c.args.place) low) (from_bits c.coefficient.result c.coefficient.type_inv)
 
 small : (c : goal.After-coefficient) → magnitude (pos (c.key-key.result / c.args.place) *ℤ c.coefficient.result) < 2 ^ 63
 small c =
@@ -23,8 +23,8 @@ small c =
     let low : e ≤ 2 ^ 19 = omega (arith, div-le_self c.key-key.result c.args.place, c.key-key.ensures.bound) in
     omega (arith, size-product (pos e) c.coefficient.result, mul-le-mul_right {m = e} {n = 2 ^ 19} (magnitude c.coefficient.result) low, c.coefficient.ensures.bound)
 
-pub overflow-mul-result : goal.overflow-mul-result
-overflow-mul-result c = subst (SFits w64) (sym (factors c)) (size_fits _ (small c))
+pub overflow_mul-result : goal.overflow_mul-result
+overflow_mul-result c = subst (SFits w64) (sym (factors c)) (size_fits _ (small c))
 
 pub returns : goal.returns
 returns c =

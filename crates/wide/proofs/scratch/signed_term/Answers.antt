@@ -12,8 +12,8 @@ returns c =
     record {
       value =
           ap₂ monomial c.key.ensures.value
-          (from_bits c.with-sign.result c.with-sign.type-inv ∙ c.with-sign.ensures.value ∙
-          ap (signed_number c.args.negated) (from_bits c.coefficient.result c.coefficient.type-inv ∙ c.coefficient.ensures.value)) ∙
+          (from_bits c.with_sign.result c.with_sign.type_inv ∙ c.with_sign.ensures.value ∙
+          ap (signed_number c.args.negated) (from_bits c.coefficient.result c.coefficient.type_inv ∙ c.coefficient.ensures.value)) ∙
           sym (signed-at c.args.negated (stretch_terms c.args.stretch) c.args.i c.requires);
       bound = c.key.ensures.bound;
     }

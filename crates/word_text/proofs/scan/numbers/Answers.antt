@@ -4,12 +4,12 @@ use Rattle.word_text.specs.Scan.{Advances, stepped}
 use Rattle.word_text.proofs.Scanned.{refused-inside, read-inside, refused-at-end, read-at-end}
 use Rattle.word_text.proofs.scan.numbers.Goals as goal
 
-pub returns-in-default : goal.returns-in-default
-returns-in-default c =
+pub returns-in_default : goal.returns-in_default
+returns-in_default c =
     let text = c.args.text.now in
     let within : c.loop-byte.byte-index < length text = omega arith in
     let taken = subst (λ o. Advances (stepped c.loop-byte.place (get_or text c.loop-byte.byte-index 0)) (vec_items c.loop-byte.found) o (vec_items c.advance.new.found))
-    c.in-default.is c.in-ok-next.ensures in
+    c.in_default.is c.in_ok-next.ensures in
     sym (refused-inside text c.loop-byte.byte-index within c.loop-byte.place _ _ taken) ∙ c.loop-byte.invariant
 
 pub loop-byte-preserved : goal.loop-byte-preserved
@@ -17,7 +17,7 @@ loop-byte-preserved c =
     let text = c.args.text.now in
     let within : c.loop-byte.byte-index < length text = omega arith in
     let taken = subst (λ o. Advances (stepped c.loop-byte.place (get_or text c.loop-byte.byte-index 0)) (vec_items c.loop-byte.found) o (vec_items c.advance.new.found))
-    c.in-Some.is c.in-ok-next.ensures in
+    c.in-Some.is c.in_ok-next.ensures in
     sym (read-inside text c.loop-byte.byte-index within c.loop-byte.place _ _ c.in-Some.next taken) ∙ c.loop-byte.invariant
 
 pub returns-in-Some-2 : goal.returns-in-Some-2
@@ -25,7 +25,7 @@ returns-in-Some-2 c =
     let text = c.args.text.now in
     let beyond : length text ≤ c.loop-byte.byte-index = omega arith in
     let taken = subst (λ o. Advances (stepped c.loop-byte.place 32) (vec_items c.loop-byte.found) o (vec_items c.advance-2.new.found))
-    c.in-Some-2.is c.in-ok-advance.ensures in
+    c.in-Some-2.is c.in_ok-advance.ensures in
     sym (read-at-end text c.loop-byte.byte-index beyond c.loop-byte.place _ _ c.in-Some-2.field-0 taken) ∙ c.loop-byte.invariant
 
 pub returns-in-None : goal.returns-in-None
@@ -33,5 +33,5 @@ returns-in-None c =
     let text = c.args.text.now in
     let beyond : length text ≤ c.loop-byte.byte-index = omega arith in
     let taken = subst (λ o. Advances (stepped c.loop-byte.place 32) (vec_items c.loop-byte.found) o (vec_items c.advance-2.new.found))
-    c.in-None.is c.in-ok-advance.ensures in
+    c.in-None.is c.in_ok-advance.ensures in
     sym (refused-at-end text c.loop-byte.byte-index beyond c.loop-byte.place _ _ taken) ∙ c.loop-byte.invariant

@@ -3,14 +3,14 @@ use Rattle.std.proofs.Common.{◌+◌, ap, arith}
 use Rattle.packed.proofs.Lowered.{stretch-length, stretch-at, view-short}
 use Rattle.packed.proofs.stretch.Stretch.key.Goals as goal
 
-pub overflow-add-self : goal.overflow-add-self
-overflow-add-self c = record { fits = omega (arith, stretch-length c.args.self.now, c.requires, view-short c.args.self.now.view) }
+pub overflow_add-self : goal.overflow_add-self
+overflow_add-self c = record { fits = omega (arith, stretch-length c.args.self.now, c.requires, view-short c.args.self.now.view) }
 
 pub key-requires : goal.key-requires
 key-requires c = omega (arith, stretch-length c.args.self.now, c.requires)
 
-pub overflow-sub-result : goal.overflow-sub-result
-overflow-sub-result c =
+pub overflow_sub-result : goal.overflow_sub-result
+overflow_sub-result c =
     omega (
       arith,
       c.key.ensures.value,

@@ -6,13 +6,13 @@ use Rattle.packed.proofs.Leading.{below-most, rising-above}
 use Rattle.packed.proofs.Lowered.{view-rising}
 use Rattle.packed.proofs.stretch.Stretch.leading.Goals as goal
 
-pub invariant-of-result : goal.invariant-of-result
-invariant-of-result c = (
-  omega (arith, c.count-below-from.ensures, below-most c.leading-key-down.result (terms_in c.args.view)),
-  ((λ i h l. rising-above 0 (2 ^ 19) c.leading-key-down.result (terms_in c.args.view) i (view-rising c.args.view) (omega (arith, c.count-below-from.ensures, h)) l), tt),
-)
+pub invariant_of-result : goal.invariant_of-result
+invariant_of-result c = record {
+  inside = omega (arith, c.count_below-from.ensures, below-most c.leading_key-down.result (terms_in c.args.view));
+  above = λ i h l. rising-above 0 (2 ^ 19) c.leading_key-down.result (terms_in c.args.view) i (view-rising c.args.view) (omega (arith, c.count_below-from.ensures, h)) l;
+}
 
 pub returns : goal.returns
 returns c =
-    ap₂ (λ d n. lowered d (drop n (terms_in c.args.view))) c.leading-key-down.ensures.value
-    (c.count-below-from.ensures ∙ ap (λ b. count_below b (terms_in c.args.view)) c.leading-key-down.ensures.value)
+    ap₂ (λ d n. lowered d (drop n (terms_in c.args.view))) c.leading_key-down.ensures.value
+    (c.count_below-from.ensures ∙ ap (λ b. count_below b (terms_in c.args.view)) c.leading_key-down.ensures.value)

@@ -6,21 +6,18 @@ use Rattle.packed.proofs.Leading.{below-most, rising-above, leading-gap, leading
 use Rattle.packed.proofs.Lowered.{view-rising}
 use Rattle.packed.proofs.stretch.Stretch.leading_over.Goals as goal
 
-pub invariant-of-result : goal.invariant-of-result
-invariant-of-result c =
+pub invariant_of-result : goal.invariant_of-result
+invariant_of-result c =
     let gap = leading-gap c.args.others (terms_in c.args.divisor) (terms_in c.args.dividend) c.requires.real c.requires.over in
-    let low : c.leading-key-2.result ≤ c.leading-key.result = omega (arith, gap, c.leading-key-2.ensures.value, c.leading-key.ensures.value) in (
-      omega (arith, c.count-below-from.ensures, below-most c.leading-key.result (terms_in c.args.dividend)),
-      (
-        (λ i h l.
-            let g = rising-above 0 (2 ^ 19) c.leading-key.result (terms_in c.args.dividend) i (view-rising c.args.dividend) (omega (arith, c.count-below-from.ensures, h)) l in
-            omega (arith, low, g)),
-        tt,
-      ),
-    )
+    let low : c.leading_key-2.result ≤ c.leading_key.result = omega (arith, gap, c.leading_key-2.ensures.value, c.leading_key.ensures.value) in record {
+      inside = omega (arith, c.count_below-from.ensures, below-most c.leading_key.result (terms_in c.args.dividend));
+      above = λ i h l.
+        let g = rising-above 0 (2 ^ 19) c.leading_key.result (terms_in c.args.dividend) i (view-rising c.args.dividend) (omega (arith, c.count_below-from.ensures, h)) l in
+        omega (arith, low, g);
+    }
 
 pub returns : goal.returns
 returns c =
-    ap₂ (λ d n. lowered d (drop n (terms_in c.args.dividend))) c.leading-key-2.ensures.value
-    (c.count-below-from.ensures ∙ ap (λ b. count_below b (terms_in c.args.dividend)) c.leading-key.ensures.value) ∙
+    ap₂ (λ d n. lowered d (drop n (terms_in c.args.dividend))) c.leading_key-2.ensures.value
+    (c.count_below-from.ensures ∙ ap (λ b. count_below b (terms_in c.args.dividend)) c.leading_key.ensures.value) ∙
     sym (leading-raised 0 (2 ^ 19) c.args.others (terms_in c.args.divisor) (terms_in c.args.dividend) (view-rising c.args.dividend) c.requires.real c.requires.over)

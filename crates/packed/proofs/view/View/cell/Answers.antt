@@ -5,8 +5,8 @@ use Rattle.terms.specs.Cells.{monomial_of}
 use Rattle.packed.proofs.Places.{length-monomials, monomial-at}
 use Rattle.packed.proofs.view.View.cell.Goals as goal
 
-pub offset-bounds-self-i : goal.offset-bounds-self-i
-offset-bounds-self-i c = omega (arith, length-monomials c.args.self.now.cells.now)
+pub offset_bounds-self-i : goal.offset_bounds-self-i
+offset_bounds-self-i c = omega (arith, length-monomials c.args.self.now.cells.now)
 
 pub bounds-self-i : goal.bounds-self-i
 bounds-self-i c = omega (arith, length-monomials c.args.self.now.cells.now)

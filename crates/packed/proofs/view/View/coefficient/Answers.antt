@@ -9,9 +9,9 @@ use Rattle.packed.proofs.view.View.coefficient.Goals as goal
 
 pub returns : goal.returns
 returns c =
-    let e : to_z w64 (of_z w64 c.div-euclid.result) ≡ (term_at (terms_in c.args.self.now) c.args.i).times =
-    from_bits c.div-euclid.result c.div-euclid.type-inv ∙ c.div-euclid.ensures ∙
-    ap (λ z. int_div_euclid z (pos (2 ^ 20))) (from_bits c.cell.result c.cell.type-inv) ∙ ap (λ m. m.times) c.cell.ensures in
+    let e : to_z w64 (of_z w64 c.div_euclid.result) ≡ (term_at (terms_in c.args.self.now) c.args.i).times =
+    from_bits c.div_euclid.result c.div_euclid.type_inv ∙ c.div_euclid.ensures ∙
+    ap (λ z. int_div_euclid z (pos (2 ^ 20))) (from_bits c.cell.result c.cell.type_inv) ∙ ap (λ m. m.times) c.cell.ensures in
     let s = test-stored c.args.self.now.cells.now c.args.self.now.stored in
     let b = size-at (2 ^ 27 - 1) (terms_in c.args.self.now) c.args.i s.sizes c.requires in
     record { value = e; bound = omega (arith, ap magnitude e, b) }

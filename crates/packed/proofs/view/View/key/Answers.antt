@@ -8,9 +8,9 @@ use Rattle.packed.proofs.view.View.key.Goals as goal
 
 pub returns : goal.returns
 returns c =
-    let e : c.unsigned-abs.result ≡ (term_at (terms_in c.args.self.now) c.args.i).key =
-    c.unsigned-abs.ensures.value ∙ ap nat_abs (from_bits c.rem-euclid.result c.rem-euclid.type-inv ∙ c.rem-euclid.ensures.value ∙
-    ap (λ z. int_rem_euclid z (pos (2 ^ 20))) (from_bits c.cell.result c.cell.type-inv)) ∙ ap (λ m. m.key) c.cell.ensures in
+    let e : c.unsigned_abs.result ≡ (term_at (terms_in c.args.self.now) c.args.i).key =
+    c.unsigned_abs.ensures.value ∙ ap nat_abs (from_bits c.rem_euclid.result c.rem_euclid.type_inv ∙ c.rem_euclid.ensures.value ∙
+    ap (λ z. int_rem_euclid z (pos (2 ^ 20))) (from_bits c.cell.result c.cell.type_inv)) ∙ ap (λ m. m.key) c.cell.ensures in
     let s = test-stored c.args.self.now.cells.now c.args.self.now.stored in
     let b = key-at (2 ^ 19) (terms_in c.args.self.now) c.args.i (rising-keys 0 (2 ^ 19) (terms_in c.args.self.now) s.rising) c.requires in
     let Below : ℕ → Type 0 = λ k. k < 2 ^ 19 in

@@ -2,5 +2,5 @@
 use Rattle.packed.proofs.StoredTest.{stored-test}
 use Rattle.packed.proofs.view.View.new.Goals as goal
 
-pub invariant-of-result : goal.invariant-of-result
-invariant-of-result c = (stored-test c.args.cells.now c.requires, tt)
+pub invariant_of-result : goal.invariant_of-result
+invariant_of-result c = record { stored = stored-test c.args.cells.now c.requires }

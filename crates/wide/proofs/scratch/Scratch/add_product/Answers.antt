@@ -17,20 +17,20 @@ loop-i-init c = (
       (omega (arith, length-signed c.args.negated (stretch_terms c.args.stretch), c.len-i.ensures.value))),
 )
 
-pub add-scaled-requires : goal.add-scaled-requires
-add-scaled-requires c =
+pub add_scaled-requires : goal.add_scaled-requires
+add_scaled-requires c =
     let p = signed c.args.negated (stretch_terms c.args.stretch) in
     product-addable p (terms_in c.args.polynomial) (written c.args.self.now.front) (signed-factor c.args.negated (stretch_terms c.args.stretch) (stretch-factor c.args.stretch))
-    (view-factor c.args.polynomial) c.requires c.loop-i.i (monomial_in c.signed-term.result) _ c.loop-i-test.true
-    (omega (arith, length-signed c.args.negated (stretch_terms c.args.stretch), c.loop-i.invariant.0)) c.signed-term.ensures.value c.loop-i.invariant.1
+    (view-factor c.args.polynomial) c.requires c.loop-i.i (monomial_in c.signed_term.result) _ c.loop-i-test.true
+    (omega (arith, length-signed c.args.negated (stretch_terms c.args.stretch), c.loop-i.invariant.0)) c.signed_term.ensures.value c.loop-i.invariant.1
 
 pub loop-i-preserved : goal.loop-i-preserved
 loop-i-preserved c =
     let p = signed c.args.negated (stretch_terms c.args.stretch) in (
       omega (arith, c.loop-i.invariant.0),
       product-step p (terms_in c.args.polynomial) (written c.args.self.now.front) (signed-factor c.args.negated (stretch_terms c.args.stretch) (stretch-factor c.args.stretch))
-          (view-factor c.args.polynomial) c.requires c.loop-i.i (monomial_in c.signed-term.result) _ _ c.loop-i-test.true
-          (omega (arith, length-signed c.args.negated (stretch_terms c.args.stretch), c.loop-i.invariant.0)) c.signed-term.ensures.value c.loop-i.invariant.1 c.add-scaled.ensures,
+          (view-factor c.args.polynomial) c.requires c.loop-i.i (monomial_in c.signed_term.result) _ _ c.loop-i-test.true
+          (omega (arith, length-signed c.args.negated (stretch_terms c.args.stretch), c.loop-i.invariant.0)) c.signed_term.ensures.value c.loop-i.invariant.1 c.add_scaled.ensures,
     )
 
 pub returns : goal.returns

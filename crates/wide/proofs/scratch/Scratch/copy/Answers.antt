@@ -12,14 +12,14 @@ use Rattle.wide.proofs.scratch.Scratch.copy.Goals as goal
 pub push-requires : goal.push-requires
 push-requires c = (
   omega (arith, ap length c.loop-i.invariant, length-take c.loop-i.i (signed c.args.negated (stretch_terms c.args.stretch)), c.loop-i-test.true, c.len-i-end.ensures.bound),
-  omega (arith, c.signed-term.ensures.bound),
+  omega (arith, c.signed_term.ensures.bound),
 )
 
 pub loop-i-preserved : goal.loop-i-preserved
 loop-i-preserved c =
     let ts = signed c.args.negated (stretch_terms c.args.stretch) in
     let i : c.loop-i.i < length ts = omega (arith, length-signed c.args.negated (stretch_terms c.args.stretch), c.loop-i-test.true, c.len-i-end.ensures.value) in
-    c.push.ensures ∙ ap (λ w. w ++ monomial_in c.signed-term.result ∷ []) c.loop-i.invariant ∙ ap (λ m. take c.loop-i.i ts ++ m ∷ []) c.signed-term.ensures.value ∙
+    c.push.ensures ∙ ap (λ w. w ++ monomial_in c.signed_term.result ∷ []) c.loop-i.invariant ∙ ap (λ m. take c.loop-i.i ts ++ m ∷ []) c.signed_term.ensures.value ∙
     sym (take_more ts c.loop-i.i (monomial 0 (pos 0)) i)
 
 pub returns : goal.returns

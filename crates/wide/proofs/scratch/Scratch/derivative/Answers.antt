@@ -12,9 +12,9 @@ use Rattle.wide.proofs.scratch.Scratch.derivative.Goals as goal
 
 pub loop-i-init : goal.loop-i-init
 loop-i-init c = (
-  ap (λ w. w ++ slopes c.args.others (drop c.count-below-i.result (terms_in c.args.polynomial))) c.clear.ensures ∙
+  ap (λ w. w ++ slopes c.args.others (drop c.count_below-i.result (terms_in c.args.polynomial))) c.clear.ensures ∙
       ap (λ n. slopes c.args.others (drop n (terms_in c.args.polynomial)))
-      (c.count-below-i.ensures ∙ ap (λ b. count_below b (terms_in c.args.polynomial)) c.digit-place-place.ensures.value),
+      (c.count_below-i.ensures ∙ ap (λ b. count_below b (terms_in c.args.polynomial)) c.digit_place-place.ensures.value),
   omega (arith, ap length c.clear.ensures),
 )
 
@@ -22,11 +22,11 @@ pub slope-requires : goal.slope-requires
 slope-requires c =
     let i : c.loop-i.i < length (terms_in c.args.polynomial) = omega (arith, c.loop-i-test.true, c.len-i-end.ensures.value) in
     record {
-      place = c.digit-place-place.ensures.bound.0;
+      place = c.digit_place-place.ensures.bound.0;
       within = i;
       key =
-          rising-above 0 (2 ^ 19) c.digit-place-place.result (terms_in c.args.polynomial) c.loop-i.i (view-rising c.args.polynomial)
-          (omega (arith, c.count-below-i.ensures, c.loop-i.auto.i)) i;
+          rising-above 0 (2 ^ 19) c.digit_place-place.result (terms_in c.args.polynomial) c.loop-i.i (view-rising c.args.polynomial)
+          (omega (arith, c.count_below-i.ensures, c.loop-i.auto.i)) i;
     }
 
 pub push-requires : goal.push-requires
@@ -36,7 +36,7 @@ pub loop-i-preserved : goal.loop-i-preserved
 loop-i-preserved c =
     let i : c.loop-i.i < length (terms_in c.args.polynomial) = omega (arith, c.loop-i-test.true, c.len-i-end.ensures.value) in (
       slopes-next c.args.others (terms_in c.args.polynomial) (written c.loop-i.self.front) _ c.loop-i.i (monomial_in c.slope.result) i
-          (c.slope.ensures.value ∙ ap (λ p. slope_by p (term_at (terms_in c.args.polynomial) c.loop-i.i)) c.digit-place-place.ensures.value) c.push.ensures ∙
+          (c.slope.ensures.value ∙ ap (λ p. slope_by p (term_at (terms_in c.args.polynomial) c.loop-i.i)) c.digit_place-place.ensures.value) c.push.ensures ∙
           c.loop-i.invariant.0,
       omega (arith, ap length c.push.ensures, length-append (written c.loop-i.self.front) (monomial_in c.slope.result ∷ []), c.loop-i.invariant.1),
     )

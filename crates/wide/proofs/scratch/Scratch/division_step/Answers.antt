@@ -9,23 +9,23 @@ use Rattle.wide.proofs.Multiplying.{none_written, one_product}
 use Rattle.wide.proofs.Factors.{view-factor, stretch-factor}
 use Rattle.wide.proofs.scratch.Scratch.division_step.Goals as goal
 
-pub add-product-requires : goal.add-product-requires
-add-product-requires c = none_written _ c.clear.ensures
+pub add_product-requires : goal.add_product-requires
+add_product-requires c = none_written _ c.clear.ensures
 
-pub add-product-requires-2 : goal.add-product-requires-2
-add-product-requires-2 c =
+pub add_product-requires-2 : goal.add_product-requires-2
+add_product-requires-2 c =
     one_product (stretch_terms c.leading.result) (terms_in c.args.dividend) _ (stretch-factor c.leading.result) (view-factor c.args.dividend)
-    (c.add-product.ensures ∙ ap (add_product (stretch_terms c.leading.result) (terms_in c.args.dividend)) c.clear.ensures)
+    (c.add_product.ensures ∙ ap (add_product (stretch_terms c.leading.result) (terms_in c.args.dividend)) c.clear.ensures)
 
 pub returns : goal.returns
 returns c =
     let n = c.args.others in
     let p = terms_in c.args.divisor in
     let s = terms_in c.args.dividend in
-    let first = c.add-product.ensures ∙ ap (add_product (stretch_terms c.leading.result) s) c.clear.ensures in
+    let first = c.add_product.ensures ∙ ap (add_product (stretch_terms c.leading.result) s) c.clear.ensures in
     let one = product-rising (stretch_terms c.leading.result) s [] _ first (stretch-rising c.leading.result) (view-rising c.args.dividend) (none-rising [] refl) in
-    let two = product-rising (neg_terms (stretch_terms c.leading-over.result)) p _ _ c.add-product-2.ensures (signed-rising true 0 (2 ^ 19) (stretch_terms c.leading-over.result) (stretch-rising c.leading-over.result)) (view-rising c.args.divisor) one in
+    let two = product-rising (neg_terms (stretch_terms c.leading_over.result)) p _ _ c.add_product-2.ensures (signed-rising true 0 (2 ^ 19) (stretch_terms c.leading_over.result) (stretch-rising c.leading_over.result)) (view-rising c.args.divisor) one in
     record {
-      value = c.add-product-2.ensures ∙ ap₂ (λ w acc. add_product (neg_terms w) p acc) c.leading-over.ensures (first ∙ ap (λ w. add_product w s []) c.leading.ensures);
+      value = c.add_product-2.ensures ∙ ap₂ (λ w acc. add_product (neg_terms w) p acc) c.leading_over.ensures (first ∙ ap (λ w. add_product w s []) c.leading.ensures);
       rising = two;
     }

@@ -10,12 +10,12 @@ pub returns-then-variable-variables : goal.returns-then-variable-variables
 returns-then-variable-variables c =
     let e : c.args.variables - c.args.variable - 1 ≡ c.args.variables - suc c.args.variable = omega arith in
     let made =
-    c.push.ensures ∙ ap (λ w. w ++ monomial c.digit-place-key.result (pos 1) ∷ []) c.clear.ensures in
+    c.push.ensures ∙ ap (λ w. w ++ monomial c.digit_place-key.result (pos 1) ∷ []) c.clear.ensures in
     record {
       value =
-          made ∙ ap (λ k. monomial k (pos 1) ∷ []) (c.digit-place-key.ensures.value ∙ ap (λ n. 32 ^ n) e) ∙
+          made ∙ ap (λ k. monomial k (pos 1) ∷ []) (c.digit_place-key.ensures.value ∙ ap (λ n. 32 ^ n) e) ∙
           sym (variable-there c.args.variables c.args.variable c.if-variable-variables.true);
-      rising = one-rising c.digit-place-key.result (pos 1) _ made (c.digit-place-key.ensures.small (omega (arith, c.requires, c.if-variable-variables.true))) tt;
+      rising = one-rising c.digit_place-key.result (pos 1) _ made (c.digit_place-key.ensures.small (omega (arith, c.requires, c.if-variable-variables.true))) tt;
     }
 
 pub returns-else-variable-variables : goal.returns-else-variable-variables

@@ -13,11 +13,12 @@ bounds-self-self c = omega (arith, written-length c.args.self.now, c.requires.0,
 pub bounds-self-self-2 : goal.bounds-self-self-2
 bounds-self-self-2 c = omega (arith, written-length c.args.self.now, c.requires.0, c.args.self.now.alike)
 
-pub invariant-of-self-2 : goal.invariant-of-self-2
-invariant-of-self-2 c = (
-  omega (arith, written-length c.args.self.now, c.requires.0),
-  (length-set c.args.self.now.keys.now c.args.self.now.len (to_z w64 c.args.term.key) ∙ c.args.self.now.enough, (search rules, tt)),
-)
+pub invariant_of-self-2 : goal.invariant_of-self-2
+invariant_of-self-2 c = record {
+  within = omega (arith, written-length c.args.self.now, c.requires.0);
+  enough = length-set c.args.self.now.keys.now c.args.self.now.len (to_z w64 c.args.term.key) ∙ c.args.self.now.enough;
+  alike = search rules;
+}
 
 pub returns : goal.returns
 returns c =

@@ -6,14 +6,14 @@ use Rattle.wide.proofs.Pairs.{written_at}
 use Rattle.wide.proofs.Written.{written-length}
 use Rattle.wide.proofs.wide.Wide.term.Goals as goal
 
-pub offset-bounds-self-i : goal.offset-bounds-self-i
-offset-bounds-self-i c = omega (arith, written-length c.args.self.now, c.args.self.now.within, c.args.self.now.enough)
+pub offset_bounds-self-i : goal.offset_bounds-self-i
+offset_bounds-self-i c = omega (arith, written-length c.args.self.now, c.args.self.now.within, c.args.self.now.enough)
 
 pub bounds-self-i : goal.bounds-self-i
 bounds-self-i c = omega (arith, written-length c.args.self.now, c.args.self.now.within, c.args.self.now.enough)
 
-pub offset-bounds-self-i-2 : goal.offset-bounds-self-i-2
-offset-bounds-self-i-2 c = omega (arith, written-length c.args.self.now, c.args.self.now.within, c.args.self.now.alike)
+pub offset_bounds-self-i-2 : goal.offset_bounds-self-i-2
+offset_bounds-self-i-2 c = omega (arith, written-length c.args.self.now, c.args.self.now.within, c.args.self.now.alike)
 
 pub bounds-self-i-2 : goal.bounds-self-i-2
 bounds-self-i-2 c = omega (arith, written-length c.args.self.now, c.args.self.now.within, c.args.self.now.alike)
@@ -23,5 +23,5 @@ returns c =
     let w = c.args.self.now in
     let f : SFits w64 (get_or w.keys.now c.args.i (pos 0)) = search rules in
     let g : SFits w64 (get_or w.coefficients.now c.args.i (pos 0)) = search rules in
-    ap₂ monomial (c.unsigned-abs.ensures.value ∙ ap nat_abs (to_z-of_z w64 _ f)) (to_z-of_z w64 _ g) ∙
+    ap₂ monomial (c.unsigned_abs.ensures.value ∙ ap nat_abs (to_z-of_z w64 _ f)) (to_z-of_z w64 _ g) ∙
     sym (written_at w.len w.keys.now w.coefficients.now c.args.i (w.enough ∙ sym w.alike) (omega (arith, w.within, w.enough)) (omega (arith, written-length w, c.requires)))
