@@ -11,16 +11,16 @@ returns-then-stages-eq0 g t c = no-table-closed g.S.Sink.grown c.args.stages.now
 
 pub returns-in-None : goal.returns-in-None
 returns-in-None g t c =
-    end-gap g.S.Sink.grown c.args.stages.now c.args.cells.now _ c.args.sink.now c.take-end-taken.result c.if-stages-eq0.false c.requires c.take-end-taken.ensures c.in-None.is
+    end-gap g.S.Sink.grown c.args.stages.now c.args.cells.now _ c.args.sink.now c.take_end-taken.result c.if-stages-eq0.false c.requires c.take_end-taken.ensures c.in-None.is
 
 pub returns-then-not-give : goal.returns-then-not-give
 returns-then-not-give g t c =
-    end-given g.S.Sink.grown c.args.stages.now c.args.cells.now _ _ c.args.sink.now c.take-end-taken.result c.in-Some.leaving c.view.result.now c.view-o.result.now _ _
-    c.if-stages-eq0.false c.requires c.take-end-taken.ensures c.in-Some.is c.view.ensures c.view-o.ensures c.if-not-give.ensures refl
+    end-given g.S.Sink.grown c.args.stages.now c.args.cells.now _ _ c.args.sink.now c.take_end-taken.result c.in-Some.leaving c.view.result.now c.view-o.result.now _ _
+    c.if-stages-eq0.false c.requires c.take_end-taken.ensures c.in-Some.is c.view.ensures c.view-o.ensures c.if-not-give.ensures refl
 
 pub returns-else-not-give : goal.returns-else-not-give
 returns-else-not-give g t c =
-    end-given g.S.Sink.grown c.args.stages.now c.args.cells.now _ _ c.args.sink.now c.take-end-taken.result c.in-Some.leaving c.view.result.now c.view-o.result.now _ _
-    c.if-stages-eq0.false c.requires c.take-end-taken.ensures c.in-Some.is c.view.ensures c.view-o.ensures c.if-not-give.ensures
+    end-given g.S.Sink.grown c.args.stages.now c.args.cells.now _ _ c.args.sink.now c.take_end-taken.result c.in-Some.leaving c.view.result.now c.view-o.result.now _ _
+    c.if-stages-eq0.false c.requires c.take_end-taken.ensures c.in-Some.is c.view.ensures c.view-o.ensures c.if-not-give.ensures
     (ap (λ ds. closed g.S.Sink.grown (stages_of (take (length c.args.stages.now - 1) (drop 1 c.args.stages.now))) (cells_of ds) c.give.new.sink) (sym (rest_put c.args.cells.now c.give.new.cells (omega arith)))
     ∙ c.close.ensures)

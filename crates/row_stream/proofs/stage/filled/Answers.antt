@@ -6,11 +6,11 @@ use Rattle.row_stream.proofs.stage.filled.Goals as goal
 
 pub loop-i-preserved : goal.loop-i-preserved
 loop-i-preserved c = (
-  length-set c.loop-i.signs c.loop-i.i c.slot-sign.result ∙ c.loop-i.invariant.0,
+  length-set c.loop-i.signs c.loop-i.i c.slot_sign.result ∙ c.loop-i.invariant.0,
   omega arith,
   filled-step c.args.plan.now (insert_at c.args.place c.args.s c.args.others.now) c.loop-i.signs c.loop-i.i c.loop-i.open _
-      c.inserted-at.result c.slot-sign.result c.opens-of-open.result c.loop-i-test.true (omega arith) c.loop-i.invariant.2
-      c.inserted-at.ensures c.slot-sign.ensures c.opens-of-open.ensures.0,
+      c.inserted_at.result c.slot_sign.result c.opens_of-open.result c.loop-i-test.true (omega arith) c.loop-i.invariant.2
+      c.inserted_at.ensures c.slot_sign.ensures c.opens_of-open.ensures.0,
 )
 
 pub returns : goal.returns

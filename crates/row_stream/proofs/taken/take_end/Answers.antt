@@ -19,7 +19,7 @@ returns-in-Held c f =
     let o = signs_of c.in-Held.held in
     let side = side_of c.in-Held.side in
     ap (λ z. closing f (cell_of z)) c.in-Held.is
-    ∙ end-rows f o side (leaving_of c.until-end.result)
-    (c.until-end.ensures
-    ∙ ap entries_to_end (c.way-between-way.ensures
-    ∙ ap₂ (λ l s. way_between l (Is s)) (c.left-end.ensures ∙ ap (left_end side) c.view-o.ensures) (c.first-sign.ensures ∙ ap first_sign c.view-o.ensures)))
+    ∙ end-rows f o side (leaving_of c.until_end.result)
+    (c.until_end.ensures
+    ∙ ap entries_to_end (c.way_between-way.ensures
+    ∙ ap₂ (λ l s. way_between l (Is s)) (c.left_end.ensures ∙ ap (left_end side) c.view-o.ensures) (c.first_sign.ensures ∙ ap first_sign c.view-o.ensures)))

@@ -20,17 +20,17 @@ returns-in-Clear c =
     ∙ interval-held f (side_of c.in-Clear.side) c.args.row.now (signs_of c.copied-held.result) _ (entries_of c.nothing.result)
     (c.copied-held.ensures ∙ c.front-x.ensures) c.nothing.ensures
 
-pub returns-then-not-any-zero : goal.returns-then-not-any-zero
-returns-then-not-any-zero c =
+pub returns-then-not-any_zero : goal.returns-then-not-any_zero
+returns-then-not-any_zero c =
     let f = stage_of c.args.stage.now in
     ap (λ z. stepped f (cell_of z) c.args.row.now) c.in-Held.is
-    ∙ point-goes f (side_of c.in-Held.side) c.args.row.now (signs_of c.in-Held.held) c.front-x.result.now (entries_of c.nothing-then-not-any-zero.result)
-    c.front-x.ensures c.if-not-any-zero.ensures c.nothing-then-not-any-zero.ensures
+    ∙ point-goes f (side_of c.in-Held.side) c.args.row.now (signs_of c.in-Held.held) c.front-x.result.now (entries_of c.nothing-then-not-any_zero.result)
+    c.front-x.ensures c.if-not-any_zero.ensures c.nothing-then-not-any_zero.ensures
 
-pub returns-else-not-any-zero : goal.returns-else-not-any-zero
-returns-else-not-any-zero c =
+pub returns-else-not-any_zero : goal.returns-else-not-any_zero
+returns-else-not-any_zero c =
     let f = stage_of c.args.stage.now in
     ap (λ z. stepped f (cell_of z) c.args.row.now) c.in-Held.is
     ∙ point-stays f (side_of c.in-Held.side) c.args.row.now (signs_of c.in-Held.held) c.front-x.result.now c.back.result.now
-    (known_of c.at-root.result) (λ x. taken_of f x c.point-taken.result)
-    c.front-x.ensures c.back.ensures c.at-root.ensures c.if-not-any-zero.ensures (c.point-taken.ensures f)
+    (known_of c.at_root.result) (λ x. taken_of f x c.point_taken.result)
+    c.front-x.ensures c.back.ensures c.at_root.ensures c.if-not-any_zero.ensures (c.point_taken.ensures f)

@@ -6,8 +6,8 @@ use Rattle.row_stream.proofs.tally.over_rows.Goals as goal
 
 pub returns-then-run : goal.returns-then-run
 returns-then-run g c =
-    tally-run g.J.Judge.says c.args.judge c.args.all c.first-answer.result (stages_of c.args.stages.now) c.args.row.now true c.run.new.sink c.first-answer.ensures c.if-run.ensures
+    tally-run g.J.Judge.says c.args.judge c.args.all c.first_answer.result (stages_of c.args.stages.now) c.args.row.now true c.run.new.sink c.first_answer.ensures c.if-run.ensures
 
 pub returns : goal.returns
 returns g c =
-    tally-run g.J.Judge.says c.args.judge c.args.all c.first-answer.result (stages_of c.args.stages.now) c.args.row.now false c.run.new.sink c.first-answer.ensures c.if-run.ensures
+    tally-run g.J.Judge.says c.args.judge c.args.all c.first_answer.result (stages_of c.args.stages.now) c.args.row.now false c.run.new.sink c.first_answer.ensures c.if-run.ensures

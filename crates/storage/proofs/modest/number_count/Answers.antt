@@ -5,8 +5,8 @@ use Rattle.wide.proofs.Written.{written-most}
 use Rattle.storage.proofs.ModestSteps.{digits-end}
 use Rattle.storage.proofs.modest.number_count.Goals as goal
 
-pub overflow-add-count : goal.overflow-add-count
-overflow-add-count c = record { fits = omega (arith, c.loop-i.invariant.1, c.numbers-at-count.ensures.bound, c.loop-i-test.true, c.len-i-end.ensures, written-most c.args.list.now) }
+pub overflow_add-count : goal.overflow_add-count
+overflow_add-count c = record { fits = omega (arith, c.loop-i.invariant.1, c.numbers_at-count.ensures.bound, c.loop-i-test.true, c.len-i-end.ensures, written-most c.args.list.now) }
 
 pub returns : goal.returns
 returns c = omega (arith, c.loop-i.invariant.0, digits-end (written c.args.list.now) c.loop-i.i (omega (arith, c.loop-i-test.false, c.len-i-end.ensures)))

@@ -6,8 +6,8 @@ use Rattle.wide.proofs.Written.{written-most}
 use Rattle.storage.proofs.ModestSteps.{digits_last, digits-on, digits-over}
 use Rattle.storage.proofs.modest.numbers_at.Goals as goal
 
-pub overflow-add-i : goal.overflow-add-i
-overflow-add-i c = record { fits = omega (arith, c.requires, written-most c.args.list.now) }
+pub overflow_add-i : goal.overflow_add-i
+overflow_add-i c = record { fits = omega (arith, c.requires, written-most c.args.list.now) }
 
 pub returns-then-i-len : goal.returns-then-i-len
 returns-then-i-len c =

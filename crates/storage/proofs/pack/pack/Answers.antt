@@ -31,7 +31,7 @@ pub loop-i-preserved : goal.loop-i-preserved
 loop-i-preserved c =
     let ts = written c.args.list.now in
     let i : c.loop-i.i < length ts = omega (arith, c.loop-i-test.true, c.len-i-end.ensures) in
-    let e = from_bits c.cell.result c.cell.type-inv ∙ c.cell.ensures ∙ ap cell_of c.term.ensures ∙ sym (cell_at ts c.loop-i.i i) in (
+    let e = from_bits c.cell.result c.cell.type_inv ∙ c.cell.ensures ∙ ap cell_of c.term.ensures ∙ sym (cell_at ts c.loop-i.i i) in (
       grown-next (cells_of ts) c.loop-i.i _ c.args.arena.now.top c.args.arena.now.cells.now c.loop-i.arena.top c.loop-i.arena.cells.now _ _
           (omega (arith, length-cells ts, i)) e c.loop-i.invariant.0 c.put.ensures.stands,
       c.put.ensures.lent ∙ c.loop-i.invariant.1,

@@ -11,23 +11,23 @@ pub loop-fuel-init : goal.loop-fuel-init
 loop-fuel-init c =
     let cells = c.args.arena.now.cells.now in
     let e : c.top-mark.result ≡ c.args.arena.now.top = c.top-mark.ensures in
-    let f : c.coefficient-count-fuel.result + 1 ≡ length_terms c.args.others (terms_at c.args.dividend cells) + 1 =
-    ap (λ k. k + 1) (c.coefficient-count-fuel.ensures.value ∙ ap (length_terms c.args.others) c.view.ensures) in
+    let f : c.coefficient_count-fuel.result + 1 ≡ length_terms c.args.others (terms_at c.args.dividend cells) + 1 =
+    ap (λ k. k + 1) (c.coefficient_count-fuel.ensures.value ∙ ap (length_terms c.args.others) c.view.ensures) in
     let D : ℕ → ℕ → ℕ → Type 0 = λ m fuel top.
     Dividing c.args.others (terms_at c.args.divisor cells) (terms_at c.args.dividend cells) m cells (length_terms c.args.others (terms_at c.args.dividend cells) + 1) fuel 0 c.args.dividend top cells in
     let d = begun c.args.others (terms_at c.args.divisor cells) (terms_at c.args.dividend cells) c.args.arena.now.top cells (omega (arith, c.requires.few)) c.args.dividend refl c.requires.dividend.0 in
-    (subst (λ m. D m (c.coefficient-count-fuel.result + 1) c.args.arena.now.top) (sym e) (subst (λ u. D c.args.arena.now.top u c.args.arena.now.top) (sym f) d), refl)
+    (subst (λ m. D m (c.coefficient_count-fuel.result + 1) c.args.arena.now.top) (sym e) (subst (λ u. D c.args.arena.now.top u c.args.arena.now.top) (sym f) d), refl)
 
-pub has-step-requires : goal.has-step-requires
-has-step-requires c =
+pub has_step-requires : goal.has_step-requires
+has_step-requires c =
     let low = subst (λ m. Holds c.args.divisor m c.args.arena.now.cells.now) (sym c.top-mark.ensures) c.requires.divisor.0 in
     record {
       few = omega (arith, c.requires.few);
       spans = (holds_kept c.args.divisor c.top-mark.result c.args.arena.now.cells.now _ _ low c.loop-fuel.invariant.0.untouched, c.loop-fuel.invariant.0.holds);
     }
 
-pub divide-once-requires : goal.divide-once-requires
-divide-once-requires c =
+pub divide_once-requires : goal.divide_once-requires
+divide_once-requires c =
     let cells = c.args.arena.now.cells.now in
     let low = subst (λ m. Holds c.args.divisor m cells) (sym c.top-mark.ensures) c.requires.divisor.0 in
     let same = still c.args.others c.args.divisor (terms_at c.args.dividend cells) c.top-mark.result cells (omega (arith, c.requires.few)) low c.loop-fuel.fuel c.loop-fuel.quotient.steps c.loop-fuel.quotient.rest c.loop-fuel.arena.top c.loop-fuel.arena.cells.now c.loop-fuel.invariant.0 in
@@ -35,24 +35,24 @@ divide-once-requires c =
       few = omega (arith, c.requires.few);
       spans = (holds_kept c.args.divisor c.top-mark.result cells _ _ low c.loop-fuel.invariant.0.untouched, c.loop-fuel.invariant.0.holds);
       real = subst (λ ts. 0 < length_terms c.args.others ts) (sym same) c.requires.real;
-      over = true-leb _ _ c.if-has-step.ensures;
+      over = true-leb _ _ c.if-has_step.ensures;
       room = (c.loop-fuel.invariant.0.untouched.above, omega (arith, c.loop-fuel.invariant.0.untouched.long, c.top-mark.ensures, c.requires.room));
     }
 
-pub returns-in-err-count : goal.returns-in-err-count
-returns-in-err-count c =
+pub returns-in_err-count : goal.returns-in_err-count
+returns-in_err-count c =
     let cells = c.args.arena.now.cells.now in
     let ps = terms_at c.args.divisor cells in
     let ss = terms_at c.args.dividend cells in
     let low = subst (λ m. Holds c.args.divisor m cells) (sym c.top-mark.ensures) c.requires.divisor.0 in
     let f = fails-still c.args.others c.args.divisor ss c.top-mark.result cells (omega (arith, c.requires.few)) low c.loop-fuel.fuel c.loop-fuel.quotient.steps c.loop-fuel.quotient.rest
-    c.loop-fuel.arena.top c.loop-fuel.arena.cells.now c.loop-fuel.invariant.0 c.divide-once.new.arena.top c.divide-once.new.arena.cells.now c.loop-fuel-test.true c.if-has-step.ensures
-    c.in-err-count.ensures.stored.0 c.in-err-count.ensures.stored.1 in
+    c.loop-fuel.arena.top c.loop-fuel.arena.cells.now c.loop-fuel.invariant.0 c.divide_once.new.arena.top c.divide_once.new.arena.cells.now c.loop-fuel-test.true c.if-has_step.ensures
+    c.in_err-count.ensures.stored.0 c.in_err-count.ensures.stored.1 in
     record {
       value =
-          refused-result c.from-residual.result c.args.others ps ss c.args.arena.now.top cells _ _ c.from-residual.ensures.0
-          (subst (λ m. Refused c.args.others ps ss m cells c.divide-once.new.arena.top c.divide-once.new.arena.cells.now) c.top-mark.ensures f);
-      lent = c.in-err-count.ensures.lent ∙ c.loop-fuel.invariant.1;
+          refused-result c.from_residual.result c.args.others ps ss c.args.arena.now.top cells _ _ c.from_residual.ensures.0
+          (subst (λ m. Refused c.args.others ps ss m cells c.divide_once.new.arena.top c.divide_once.new.arena.cells.now) c.top-mark.ensures f);
+      lent = c.in_err-count.ensures.lent ∙ c.loop-fuel.invariant.1;
     }
 
 pub loop-fuel-preserved : goal.loop-fuel-preserved
@@ -60,17 +60,17 @@ loop-fuel-preserved c =
     let cells = c.args.arena.now.cells.now in
     let low = subst (λ m. Holds c.args.divisor m cells) (sym c.top-mark.ensures) c.requires.divisor.0 in (
       step-still c.args.others c.args.divisor (terms_at c.args.dividend cells) c.top-mark.result cells (omega (arith, c.requires.few)) low c.loop-fuel.fuel c.loop-fuel.quotient.steps c.loop-fuel.quotient.rest
-          c.loop-fuel.arena.top c.loop-fuel.arena.cells.now c.loop-fuel.invariant.0 c.in-ok-count.count c.divide-once.new.arena.top c.divide-once.new.arena.cells.now c.loop-fuel-test.true
-          c.if-has-step.ensures (omega (arith, c.loop-fuel.invariant.0.untouched.long, c.top-mark.ensures, c.requires.room)) c.in-ok-count.ensures.stored,
-      c.in-ok-count.ensures.lent ∙ c.loop-fuel.invariant.1,
+          c.loop-fuel.arena.top c.loop-fuel.arena.cells.now c.loop-fuel.invariant.0 c.in_ok-count.count c.divide_once.new.arena.top c.divide_once.new.arena.cells.now c.loop-fuel-test.true
+          c.if-has_step.ensures (omega (arith, c.loop-fuel.invariant.0.untouched.long, c.top-mark.ensures, c.requires.room)) c.in_ok-count.ensures.stored,
+      c.in_ok-count.ensures.lent ∙ c.loop-fuel.invariant.1,
     )
 
-pub returns-else-has-step : goal.returns-else-has-step
-returns-else-has-step c =
+pub returns-else-has_step : goal.returns-else-has_step
+returns-else-has_step c =
     let cells = c.args.arena.now.cells.now in
     let low = subst (λ m. Holds c.args.divisor m cells) (sym c.top-mark.ensures) c.requires.divisor.0 in
     let d = ended-still c.args.others c.args.divisor (terms_at c.args.dividend cells) c.top-mark.result cells (omega (arith, c.requires.few)) low c.loop-fuel.fuel c.loop-fuel.quotient.steps
-    c.loop-fuel.quotient.rest c.loop-fuel.arena.top c.loop-fuel.arena.cells.now c.loop-fuel.invariant.0 c.if-has-step.ensures in
+    c.loop-fuel.quotient.rest c.loop-fuel.arena.top c.loop-fuel.arena.cells.now c.loop-fuel.invariant.0 c.if-has_step.ensures in
     record {
       value =
           subst (λ m. Divided c.args.others (terms_at c.args.divisor cells) (terms_at c.args.dividend cells) m cells c.loop-fuel.quotient.steps c.loop-fuel.quotient.rest c.loop-fuel.arena.top c.loop-fuel.arena.cells.now)

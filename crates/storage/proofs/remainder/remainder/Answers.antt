@@ -9,50 +9,50 @@ use Rattle.storage.specs.Dividing.{Remainder}
 use Rattle.storage.proofs.Dividing.{no-remainder, refused-remainder, plain-remainder, exchanged-remainder, exchanged-steps, modest-negated, span}
 use Rattle.storage.proofs.remainder.remainder.Goals as goal
 
-pub returns-in-err-quotient : goal.returns-in-err-quotient
-returns-in-err-quotient c =
+pub returns-in_err-quotient : goal.returns-in_err-quotient
+returns-in_err-quotient c =
     record {
-      value = no-remainder c.from-residual.result c.args.others c.args.leading _ _ _ _ _ _ c.from-residual.ensures.0 (refused-remainder c.args.others c.args.leading _ _ _ _ _ _ c.in-err-quotient.ensures.value);
-      lent = c.in-err-quotient.ensures.lent;
+      value = no-remainder c.from_residual.result c.args.others c.args.leading _ _ _ _ _ _ c.from_residual.ensures.0 (refused-remainder c.args.others c.args.leading _ _ _ _ _ _ c.in_err-quotient.ensures.value);
+      lent = c.in_err-quotient.ensures.lent;
     }
 
 pub exchange-requires : goal.exchange-requires
 exchange-requires c =
-    let d = c.in-ok-quotient.ensures.value in
+    let d = c.in_ok-quotient.ensures.value in
     record {
       span = d.holds;
       room = (omega (arith, d.untouched.above, c.top-mark.ensures), omega (arith, d.untouched.long, c.top-mark.ensures, c.requires.room));
     }
 
-pub returns-in-err-count : goal.returns-in-err-count
-returns-in-err-count c =
-    let d = c.in-ok-quotient.ensures.value in
-    let steps = exchanged-steps c.in-ok-quotient.quotient.steps c.args.leading (sym c.if-exchanges.ensures) in
-    absurd (both_ways (modest_terms 4 (neg_terms (terms_at c.in-ok-quotient.quotient.rest c.divide.new.arena.cells.now))) c.in-err-count.ensures.stored.0
-    (modest-negated (terms_at c.in-ok-quotient.quotient.rest c.divide.new.arena.cells.now) ∙ d.modest steps))
+pub returns-in_err-count : goal.returns-in_err-count
+returns-in_err-count c =
+    let d = c.in_ok-quotient.ensures.value in
+    let steps = exchanged-steps c.in_ok-quotient.quotient.steps c.args.leading (sym c.if-exchanges.ensures) in
+    absurd (both_ways (modest_terms 4 (neg_terms (terms_at c.in_ok-quotient.quotient.rest c.divide.new.arena.cells.now))) c.in_err-count.ensures.stored.0
+    (modest-negated (terms_at c.in_ok-quotient.quotient.rest c.divide.new.arena.cells.now) ∙ d.modest steps))
 
 pub returns-then-exchanges : goal.returns-then-exchanges
 returns-then-exchanges c =
-    let d = c.in-ok-quotient.ensures.value in
+    let d = c.in_ok-quotient.ensures.value in
     let cells = c.args.arena.now.cells.now in
     let cells1 = c.divide.new.arena.cells.now in
     let e = c.top-mark.ensures in
-    let rest = c.in-ok-quotient.quotient.rest in
-    let k = subst (λ m. Packed c.in-ok-count.count (neg_terms (terms_at rest cells1)) m cells1 c.exchange.new.arena.top c.exchange.new.arena.cells.now) e c.in-ok-count.ensures.stored in
-    let r = exchanged-remainder c.args.others c.args.leading (terms_at c.args.divisor cells) (terms_at c.args.dividend cells) c.args.arena.now.top cells c.in-ok-quotient.quotient.steps rest
-    c.divide.new.arena.top cells1 c.in-ok-count.count c.exchange.new.arena.top c.exchange.new.arena.cells.now (sym c.if-exchanges.ensures)
+    let rest = c.in_ok-quotient.quotient.rest in
+    let k = subst (λ m. Packed c.in_ok-count.count (neg_terms (terms_at rest cells1)) m cells1 c.exchange.new.arena.top c.exchange.new.arena.cells.now) e c.in_ok-count.ensures.stored in
+    let r = exchanged-remainder c.args.others c.args.leading (terms_at c.args.divisor cells) (terms_at c.args.dividend cells) c.args.arena.now.top cells c.in_ok-quotient.quotient.steps rest
+    c.divide.new.arena.top cells1 c.in_ok-count.count c.exchange.new.arena.top c.exchange.new.arena.cells.now (sym c.if-exchanges.ensures)
     (omega (arith, d.untouched.long, c.requires.room)) d k in
     record {
       value =
-          subst (λ m. Remainder c.args.others c.args.leading (terms_at c.args.divisor cells) (terms_at c.args.dividend cells) c.args.arena.now.top cells (span m c.in-ok-count.count) c.exchange.new.arena.top
+          subst (λ m. Remainder c.args.others c.args.leading (terms_at c.args.divisor cells) (terms_at c.args.dividend cells) c.args.arena.now.top cells (span m c.in_ok-count.count) c.exchange.new.arena.top
           c.exchange.new.arena.cells.now) (sym e) r;
-      lent = c.in-ok-count.ensures.lent ∙ c.in-ok-quotient.ensures.lent;
+      lent = c.in_ok-count.ensures.lent ∙ c.in_ok-quotient.ensures.lent;
     }
 
 pub returns : goal.returns
 returns c =
-    let d = c.in-ok-quotient.ensures.value in
+    let d = c.in_ok-quotient.ensures.value in
     record {
-      value = plain-remainder c.args.others c.args.leading _ _ _ _ c.in-ok-quotient.quotient.steps c.in-ok-quotient.quotient.rest _ _ (sym c.if-exchanges.ensures) d;
-      lent = c.in-ok-quotient.ensures.lent;
+      value = plain-remainder c.args.others c.args.leading _ _ _ _ c.in_ok-quotient.quotient.steps c.in_ok-quotient.quotient.rest _ _ (sym c.if-exchanges.ensures) d;
+      lent = c.in_ok-quotient.ensures.lent;
     }

@@ -9,21 +9,21 @@ use Rattle.text.specs.Prefix.{prefix_of}
 use Rattle.text.proofs.Prefixes.{prefix-refused, prefixes-refused}
 use Rattle.text.proofs.prefix.prefix_next.Goals as goal
 
-pub returns-in-err-every : goal.returns-in-err-every
+pub returns-in_err-every : goal.returns-in_err-every
 unfolding prefix_next run
-returns-in-err-every c = prefix-refused _ _ c.from-residual.result _ _ (stops (Look quantifier_of) _ _ _ _ c.in-err-every.ensures) c.from-residual.ensures.1
+returns-in_err-every c = prefix-refused _ _ c.from_residual.result _ _ (stops (Look quantifier_of) _ _ _ _ c.in_err-every.ensures) c.from_residual.ensures.1
 
-pub returns-in-err-name : goal.returns-in-err-name
+pub returns-in_err-name : goal.returns-in_err-name
 unfolding prefix_next run
-returns-in-err-name c =
+returns-in_err-name c =
     let same : c.args.prefix.count ≡ c.args.prefix.count - 0 = omega arith in
-    prefix-refused _ _ c.from-residual-in-err-name.result _ _ (goes_on (Look quantifier_of) _ _ _ _ _ c.in-ok-every.ensures ∙ stops (new_name (prefix_of c.args.prefix).names) _ _ _ _ (ap (λ k. run (new_name (take k c.args.prefix.names)) c.args.text.now c.quantifier.new.at) same ∙ c.in-err-name.ensures)) c.from-residual-in-err-name.ensures.1
+    prefix-refused _ _ c.from_residual-in_err-name.result _ _ (goes_on (Look quantifier_of) _ _ _ _ _ c.in_ok-every.ensures ∙ stops (new_name (prefix_of c.args.prefix).names) _ _ _ _ (ap (λ k. run (new_name (take k c.args.prefix.names)) c.args.text.now c.quantifier.new.at) same ∙ c.in_err-name.ensures)) c.from_residual-in_err-name.ensures.1
 
 pub returns : goal.returns
 unfolding prefix_next run
 returns c =
     let same : c.args.prefix.count ≡ c.args.prefix.count - 0 = omega arith in (
-      goes_on (Look quantifier_of) _ _ _ _ _ c.in-ok-every.ensures ∙ goes_on (new_name (prefix_of c.args.prefix).names) _ _ _ _ _ (ap (λ k. run (new_name (take k c.args.prefix.names)) c.args.text.now c.quantifier.new.at) same ∙ c.in-ok-name.ensures) ∙
-          ap (λ p. Read p c.new-name.new.at) (sym c.longer.ensures.value),
+      goes_on (Look quantifier_of) _ _ _ _ _ c.in_ok-every.ensures ∙ goes_on (new_name (prefix_of c.args.prefix).names) _ _ _ _ _ (ap (λ k. run (new_name (take k c.args.prefix.names)) c.args.text.now c.quantifier.new.at) same ∙ c.in_ok-name.ensures) ∙
+          ap (λ p. Read p c.new_name.new.at) (sym c.longer.ensures.value),
       c.longer.ensures.count,
     )

@@ -22,15 +22,15 @@ returns-then-c-ne115 c = (
   omega (arith, c.loop-turn.invariant.1, c.loop-turn-test.true),
 )
 
-pub returns-in-err-prefix : goal.returns-in-err-prefix
+pub returns-in_err-prefix : goal.returns-in_err-prefix
 unfolding prefix_for
-returns-in-err-prefix c =
+returns-in_err-prefix c =
     let begins : (eqb (get_or c.args.text.now c.loop-turn.at 0) 101 || eqb (get_or c.args.text.now c.loop-turn.at 0) 115) ≡ true =
     elim c.else-c-ne101.branch [
       | else-c-ne101-via-then-c-ne101+else-c-ne115 v ↦ or_right _ _ (eq-eqb _ 115 (sym c.front-c.ensures ∙ v.if-c-ne115.false))
       | else-c-ne101-via-else-c-ne101 v ↦ or_left _ _ (eq-eqb _ 101 (sym c.front-c.ensures ∙ v.if-c-ne101.false))
     ] in
-    prefixes-refused _ c.from-residual.result _ _ (c.loop-turn.invariant.0 ∙ while-stops begins_quantifier prefix_next 4 c.loop-turn.-turn (prefix_of c.loop-turn.prefix) c.args.text.now c.loop-turn.at _ c.loop-turn-test.true begins c.in-err-prefix.ensures) c.from-residual.ensures.1
+    prefixes-refused _ c.from_residual.result _ _ (c.loop-turn.invariant.0 ∙ while-stops begins_quantifier prefix_next 4 c.loop-turn._turn (prefix_of c.loop-turn.prefix) c.args.text.now c.loop-turn.at _ c.loop-turn-test.true begins c.in_err-prefix.ensures) c.from_residual.ensures.1
 
 pub loop-turn-preserved : goal.loop-turn-preserved
 unfolding prefix_for
@@ -40,10 +40,10 @@ loop-turn-preserved c =
       | else-c-ne101-via-then-c-ne101+else-c-ne115 v ↦ or_right _ _ (eq-eqb _ 115 (sym c.front-c.ensures ∙ v.if-c-ne115.false))
       | else-c-ne101-via-else-c-ne101 v ↦ or_left _ _ (eq-eqb _ 101 (sym c.front-c.ensures ∙ v.if-c-ne101.false))
     ] in
-    let n = c.in-ok-prefix.ensures in
-    (c.loop-turn.invariant.0 ∙ while-goes begins_quantifier prefix_next 4 c.loop-turn.-turn (prefix_of c.loop-turn.prefix) c.args.text.now c.loop-turn.at _ _ c.loop-turn-test.true begins n.0, omega (arith, n.1, c.loop-turn.invariant.1))
+    let n = c.in_ok-prefix.ensures in
+    (c.loop-turn.invariant.0 ∙ while-goes begins_quantifier prefix_next 4 c.loop-turn._turn (prefix_of c.loop-turn.prefix) c.args.text.now c.loop-turn.at _ _ c.loop-turn-test.true begins n.0, omega (arith, n.1, c.loop-turn.invariant.1))
 
 pub returns : goal.returns
 unfolding prefix_for
 returns c =
-    (c.loop-turn.invariant.0 ∙ while-over begins_quantifier prefix_next 4 c.loop-turn.-turn (prefix_of c.loop-turn.prefix) c.args.text.now c.loop-turn.at c.loop-turn-test.false, omega (arith, c.loop-turn.invariant.1, c.loop-turn.auto))
+    (c.loop-turn.invariant.0 ∙ while-over begins_quantifier prefix_next 4 c.loop-turn._turn (prefix_of c.loop-turn.prefix) c.args.text.now c.loop-turn.at c.loop-turn-test.false, omega (arith, c.loop-turn.invariant.1, c.loop-turn.auto))

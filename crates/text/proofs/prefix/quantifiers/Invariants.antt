@@ -5,4 +5,4 @@ use Rattle.text.specs.Prefix.{prefix_of}
 use Rattle.text.proofs.prefix.quantifiers.Given as goal
 
 abbrev pub invariant-loop-turn : goal.invariant-loop-turn
-invariant-loop-turn l = (run quantifiers l.text l.initial.at ≡ run (prefix_for (4 - l.-turn) (prefix_of l.prefix)) l.text l.at) × (l.prefix.count ≡ l.-turn)
+invariant-loop-turn l = (run quantifiers l.text l.initial.at ≡ run (prefix_for (4 - l._turn) (prefix_of l.prefix)) l.text l.at) × (l.prefix.count ≡ l._turn)

@@ -12,7 +12,7 @@ loop-i-preserved c held =
     let every-long : length c.args.prefix.every ≡ 4 = search rules in
     let within : c.loop-i.i < length c.args.prefix.every = omega (arith, c.requires, c.loop-i-test.true) in
     same-words c.put-in-loop-i.new.self _ (pos c.args.prefix.count ∷ map quantifier_word (take (c.loop-i.i + 1) c.args.prefix.every))
-    (ap (λ u. pos c.args.prefix.count ∷ (map quantifier_word (take c.loop-i.i c.args.prefix.every) ++ (u ∷ []))) (to_z-of_z w64 c.quantifier-word.result (record { sfits = c.quantifier-word.type-inv }) ∙ c.quantifier-word.ensures) ∙
+    (ap (λ u. pos c.args.prefix.count ∷ (map quantifier_word (take c.loop-i.i c.args.prefix.every) ++ (u ∷ []))) (to_z-of_z w64 c.quantifier_word.result (record { sfits = c.quantifier_word.type_inv }) ∙ c.quantifier_word.ensures) ∙
     ap (λ l. pos c.args.prefix.count ∷ l) (one-more-word c.args.prefix.every c.loop-i.i within))
     (c.put-in-loop-i.ensures (pos c.args.prefix.count ∷ map quantifier_word (take c.loop-i.i c.args.prefix.every)) (c.loop-i.invariant held))
 

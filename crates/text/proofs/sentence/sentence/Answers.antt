@@ -11,42 +11,42 @@ use Rattle.text.proofs.Sheets.{same-words}
 use Rattle.text.proofs.Steps.{refused-by, claims, no-claim}
 use Rattle.text.proofs.sentence.sentence.Goals as goal
 
-pub returns-in-err-prefix : goal.returns-in-err-prefix
+pub returns-in_err-prefix : goal.returns-in_err-prefix
 unfolding sentence
-returns-in-err-prefix c held = refused-by _ _ c.from-residual.result _ _ (goes_on _ _ _ _ _ _ c.blanks.ensures ∙ stops _ _ _ _ _ c.in-err-prefix.ensures) c.from-residual.ensures.1
+returns-in_err-prefix c held = refused-by _ _ c.from_residual.result _ _ (goes_on _ _ _ _ _ _ c.blanks.ensures ∙ stops _ _ _ _ _ c.in_err-prefix.ensures) c.from_residual.ensures.1
 
-pub returns-in-err-sign : goal.returns-in-err-sign
+pub returns-in_err-sign : goal.returns-in_err-sign
 unfolding sentence
-returns-in-err-sign c held = refused-by _ _ c.from-residual-in-err-sign.result _ _ (goes_on _ _ _ _ _ _ c.blanks.ensures ∙ goes_on _ _ _ _ _ _ c.in-ok-prefix.ensures.0 ∙ stops _ _ _ _ _ c.in-err-sign.ensures) c.from-residual-in-err-sign.ensures.1
+returns-in_err-sign c held = refused-by _ _ c.from_residual-in_err-sign.result _ _ (goes_on _ _ _ _ _ _ c.blanks.ensures ∙ goes_on _ _ _ _ _ _ c.in_ok-prefix.ensures.0 ∙ stops _ _ _ _ _ c.in_err-sign.ensures) c.from_residual-in_err-sign.ensures.1
 
-pub returns-in-err-piece : goal.returns-in-err-piece
+pub returns-in_err-piece : goal.returns-in_err-piece
 unfolding sentence
-returns-in-err-piece c held =
-    let same : c.in-ok-prefix.prefix.count ≡ c.in-ok-prefix.prefix.count - 0 = omega arith in
+returns-in_err-piece c held =
+    let same : c.in_ok-prefix.prefix.count ≡ c.in_ok-prefix.prefix.count - 0 = omega arith in
     let said = c.announce.ensures held in
-    refused-by _ _ c.from-residual-in-err-piece.result _ _ (goes_on _ _ _ _ _ _ c.blanks.ensures ∙ goes_on _ _ _ _ _ _ c.in-ok-prefix.ensures.0 ∙ goes_on _ _ _ _ _ _ c.in-ok-sign.ensures ∙ stops (equivalence (prefix_of c.in-ok-prefix.prefix).names (nest (prefix_of c.in-ok-prefix.prefix).names 200)) _ _ _ _ (ap (λ k. run (equivalence (take k c.in-ok-prefix.prefix.names) (nest (take k c.in-ok-prefix.prefix.names) 200)) c.args.text.now c.sign.new.at) same ∙ c.in-err-piece.ensures (pos c.in-ok-prefix.prefix.count ∷ map quantifier_word (take c.in-ok-prefix.prefix.count c.in-ok-prefix.prefix.every)) said)) c.from-residual-in-err-piece.ensures.1
+    refused-by _ _ c.from_residual-in_err-piece.result _ _ (goes_on _ _ _ _ _ _ c.blanks.ensures ∙ goes_on _ _ _ _ _ _ c.in_ok-prefix.ensures.0 ∙ goes_on _ _ _ _ _ _ c.in_ok-sign.ensures ∙ stops (equivalence (prefix_of c.in_ok-prefix.prefix).names (nest (prefix_of c.in_ok-prefix.prefix).names 200)) _ _ _ _ (ap (λ k. run (equivalence (take k c.in_ok-prefix.prefix.names) (nest (take k c.in_ok-prefix.prefix.names) 200)) c.args.text.now c.sign.new.at) same ∙ c.in_err-piece.ensures (pos c.in_ok-prefix.prefix.count ∷ map quantifier_word (take c.in_ok-prefix.prefix.count c.in_ok-prefix.prefix.every)) said)) c.from_residual-in_err-piece.ensures.1
 
-pub returns-in-err-claimed : goal.returns-in-err-claimed
+pub returns-in_err-claimed : goal.returns-in_err-claimed
 unfolding sentence
-returns-in-err-claimed c held =
-    let same : c.in-ok-prefix.prefix.count ≡ c.in-ok-prefix.prefix.count - 0 = omega arith in
+returns-in_err-claimed c held =
+    let same : c.in_ok-prefix.prefix.count ≡ c.in_ok-prefix.prefix.count - 0 = omega arith in
     let said = c.announce.ensures held in
-    let a = c.in-ok-piece.ensures (pos c.in-ok-prefix.prefix.count ∷ map quantifier_word (take c.in-ok-prefix.prefix.count c.in-ok-prefix.prefix.every)) said in
-    refused-by _ _ c.from-residual-in-err-claimed.result _ _ (goes_on _ _ _ _ _ _ c.blanks.ensures ∙ goes_on _ _ _ _ _ _ c.in-ok-prefix.ensures.0 ∙ goes_on _ _ _ _ _ _ c.in-ok-sign.ensures ∙ goes_on (equivalence (prefix_of c.in-ok-prefix.prefix).names (nest (prefix_of c.in-ok-prefix.prefix).names 200)) _ _ _ _ _ (ap (λ k. run (equivalence (take k c.in-ok-prefix.prefix.names) (nest (take k c.in-ok-prefix.prefix.names) 200)) c.args.text.now c.sign.new.at) same ∙ a.1) ∙
-    stops _ _ _ _ _ (no-claim c.equivalence.new.sheet (pos c.in-ok-prefix.prefix.count ∷ map quantifier_word (take c.in-ok-prefix.prefix.count c.in-ok-prefix.prefix.every)) a.0 c.in-ok-piece.piece _ c.args.text.now c.equivalence.new.at a.2 (sym c.in-err-claimed.ensures))) c.from-residual-in-err-claimed.ensures.1
+    let a = c.in_ok-piece.ensures (pos c.in_ok-prefix.prefix.count ∷ map quantifier_word (take c.in_ok-prefix.prefix.count c.in_ok-prefix.prefix.every)) said in
+    refused-by _ _ c.from_residual-in_err-claimed.result _ _ (goes_on _ _ _ _ _ _ c.blanks.ensures ∙ goes_on _ _ _ _ _ _ c.in_ok-prefix.ensures.0 ∙ goes_on _ _ _ _ _ _ c.in_ok-sign.ensures ∙ goes_on (equivalence (prefix_of c.in_ok-prefix.prefix).names (nest (prefix_of c.in_ok-prefix.prefix).names 200)) _ _ _ _ _ (ap (λ k. run (equivalence (take k c.in_ok-prefix.prefix.names) (nest (take k c.in_ok-prefix.prefix.names) 200)) c.args.text.now c.sign.new.at) same ∙ a.1) ∙
+    stops _ _ _ _ _ (no-claim c.equivalence.new.sheet (pos c.in_ok-prefix.prefix.count ∷ map quantifier_word (take c.in_ok-prefix.prefix.count c.in_ok-prefix.prefix.every)) a.0 c.in_ok-piece.piece _ c.args.text.now c.equivalence.new.at a.2 (sym c.in_err-claimed.ensures))) c.from_residual-in_err-claimed.ensures.1
 
 pub returns : goal.returns
 unfolding sentence run
 returns c held =
-    let same : c.in-ok-prefix.prefix.count ≡ c.in-ok-prefix.prefix.count - 0 = omega arith in
+    let same : c.in_ok-prefix.prefix.count ≡ c.in_ok-prefix.prefix.count - 0 = omega arith in
     let said = c.announce.ensures held in
-    let a = c.in-ok-piece.ensures (pos c.in-ok-prefix.prefix.count ∷ map quantifier_word (take c.in-ok-prefix.prefix.count c.in-ok-prefix.prefix.every)) said in
-    let q = claims c.equivalence.new.sheet (pos c.in-ok-prefix.prefix.count ∷ map quantifier_word (take c.in-ok-prefix.prefix.count c.in-ok-prefix.prefix.every)) a.0 c.in-ok-piece.piece c.in-ok-claimed.field-0 c.args.text.now c.equivalence.new.at a.2 (sym c.in-ok-claimed.ensures) in
-    let every-long : length c.in-ok-prefix.prefix.every ≡ 4 = search rules in
-    let few = c.in-ok-prefix.ensures.1 in
-    let long : c.in-ok-prefix.prefix.count ≡ length (prefix_of c.in-ok-prefix.prefix).quantifiers = omega (arith, length-take c.in-ok-prefix.prefix.count c.in-ok-prefix.prefix.every) in (
-      record { quantifiers = (prefix_of c.in-ok-prefix.prefix).quantifiers; body = q.0.formula },
-      goes_on _ _ _ _ _ _ c.blanks.ensures ∙ goes_on _ _ _ _ _ _ c.in-ok-prefix.ensures.0 ∙ goes_on _ _ _ _ _ _ c.in-ok-sign.ensures ∙ goes_on (equivalence (prefix_of c.in-ok-prefix.prefix).names (nest (prefix_of c.in-ok-prefix.prefix).names 200)) _ _ _ _ _ (ap (λ k. run (equivalence (take k c.in-ok-prefix.prefix.names) (nest (take k c.in-ok-prefix.prefix.names) 200)) c.args.text.now c.sign.new.at) same ∙ a.1) ∙ goes_on _ _ _ _ _ _ q.1,
-      same-words c.equivalence.new.sheet ((pos c.in-ok-prefix.prefix.count ∷ map quantifier_word (take c.in-ok-prefix.prefix.count c.in-ok-prefix.prefix.every)) ++ formula_words q.0.formula) (sentence_words (record { quantifiers = (prefix_of c.in-ok-prefix.prefix).quantifiers; body = q.0.formula }))
-          (ap (λ n. pos n ∷ (map quantifier_word (prefix_of c.in-ok-prefix.prefix).quantifiers ++ formula_words q.0.formula)) long) q.2.1,
+    let a = c.in_ok-piece.ensures (pos c.in_ok-prefix.prefix.count ∷ map quantifier_word (take c.in_ok-prefix.prefix.count c.in_ok-prefix.prefix.every)) said in
+    let q = claims c.equivalence.new.sheet (pos c.in_ok-prefix.prefix.count ∷ map quantifier_word (take c.in_ok-prefix.prefix.count c.in_ok-prefix.prefix.every)) a.0 c.in_ok-piece.piece c.in_ok-claimed.field-0 c.args.text.now c.equivalence.new.at a.2 (sym c.in_ok-claimed.ensures) in
+    let every-long : length c.in_ok-prefix.prefix.every ≡ 4 = search rules in
+    let few = c.in_ok-prefix.ensures.1 in
+    let long : c.in_ok-prefix.prefix.count ≡ length (prefix_of c.in_ok-prefix.prefix).quantifiers = omega (arith, length-take c.in_ok-prefix.prefix.count c.in_ok-prefix.prefix.every) in (
+      record { quantifiers = (prefix_of c.in_ok-prefix.prefix).quantifiers; body = q.0.formula },
+      goes_on _ _ _ _ _ _ c.blanks.ensures ∙ goes_on _ _ _ _ _ _ c.in_ok-prefix.ensures.0 ∙ goes_on _ _ _ _ _ _ c.in_ok-sign.ensures ∙ goes_on (equivalence (prefix_of c.in_ok-prefix.prefix).names (nest (prefix_of c.in_ok-prefix.prefix).names 200)) _ _ _ _ _ (ap (λ k. run (equivalence (take k c.in_ok-prefix.prefix.names) (nest (take k c.in_ok-prefix.prefix.names) 200)) c.args.text.now c.sign.new.at) same ∙ a.1) ∙ goes_on _ _ _ _ _ _ q.1,
+      same-words c.equivalence.new.sheet ((pos c.in_ok-prefix.prefix.count ∷ map quantifier_word (take c.in_ok-prefix.prefix.count c.in_ok-prefix.prefix.every)) ++ formula_words q.0.formula) (sentence_words (record { quantifiers = (prefix_of c.in_ok-prefix.prefix).quantifiers; body = q.0.formula }))
+          (ap (λ n. pos n ∷ (map quantifier_word (prefix_of c.in_ok-prefix.prefix).quantifiers ++ formula_words q.0.formula)) long) q.2.1,
     )

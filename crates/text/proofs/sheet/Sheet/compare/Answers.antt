@@ -15,7 +15,7 @@ returns-in-Below c xs s t begins ends held =
 pub returns-in-AtMost : goal.returns-in-AtMost
 unfolding formula_words
 returns-in-AtMost c xs s t begins ends held =
-    same-words c.insert-in-AtMost-2.new.self (xs ++ formula_words (compared AtMost s t)) _ (ap (λ r. xs ++ formula_words (compared r s t)) (sym c.in-AtMost.is)) (c.insert-in-AtMost-2.ensures xs (pos 1 ∷ term_words (difference t s)) begins (c.insert-in-AtMost.ensures xs (term_words (difference t s)) begins (c.subtract-from.ensures xs s t begins ends held)))
+    same-words c.insert-in-AtMost-2.new.self (xs ++ formula_words (compared AtMost s t)) _ (ap (λ r. xs ++ formula_words (compared r s t)) (sym c.in-AtMost.is)) (c.insert-in-AtMost-2.ensures xs (pos 1 ∷ term_words (difference t s)) begins (c.insert-in-AtMost.ensures xs (term_words (difference t s)) begins (c.subtract_from.ensures xs s t begins ends held)))
 
 pub returns-in-Equal : goal.returns-in-Equal
 unfolding formula_words
@@ -30,7 +30,7 @@ returns-in-Unequal c xs s t begins ends held =
 pub returns-in-Above : goal.returns-in-Above
 unfolding formula_words
 returns-in-Above c xs s t begins ends held =
-    same-words c.insert-in-Above.new.self (xs ++ formula_words (compared Above s t)) _ (ap (λ r. xs ++ formula_words (compared r s t)) (sym c.in-Above.is)) (c.insert-in-Above.ensures xs (term_words (difference t s)) begins (c.subtract-from-in-Above.ensures xs s t begins ends held))
+    same-words c.insert-in-Above.new.self (xs ++ formula_words (compared Above s t)) _ (ap (λ r. xs ++ formula_words (compared r s t)) (sym c.in-Above.is)) (c.insert-in-Above.ensures xs (term_words (difference t s)) begins (c.subtract_from-in-Above.ensures xs s t begins ends held))
 
 pub returns-in-AtLeast : goal.returns-in-AtLeast
 unfolding formula_words

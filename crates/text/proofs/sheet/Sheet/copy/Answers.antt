@@ -11,10 +11,10 @@ loop-turn-init c xs ys begins ends held = same-words c.args.self.now (xs ++ ys) 
 pub loop-turn-preserved : goal.loop-turn-preserved
 unfolding copies
 loop-turn-preserved c xs ys begins ends held =
-    same-words c.repeat.new.self (xs ++ (ys ++ copies (suc c.loop-turn.-turn) ys)) (xs ++ (ys ++ copies (c.loop-turn.-turn + 1) ys)) (ap (λ n. xs ++ (ys ++ copies n ys)) (sym (add-one c.loop-turn.-turn)))
-    (c.repeat.ensures xs ys (copies c.loop-turn.-turn ys) begins ends (c.loop-turn.invariant xs ys begins ends held))
+    same-words c.repeat.new.self (xs ++ (ys ++ copies (suc c.loop-turn._turn) ys)) (xs ++ (ys ++ copies (c.loop-turn._turn + 1) ys)) (ap (λ n. xs ++ (ys ++ copies n ys)) (sym (add-one c.loop-turn._turn)))
+    (c.repeat.ensures xs ys (copies c.loop-turn._turn ys) begins ends (c.loop-turn.invariant xs ys begins ends held))
 
 pub returns : goal.returns
 returns c xs ys begins ends held =
-    let n : c.loop-turn.-turn ≡ c.args.times = omega (arith, c.loop-turn-test.false) in
-    same-words c.loop-turn.self (xs ++ (ys ++ copies c.loop-turn.-turn ys)) (xs ++ (ys ++ copies c.args.times ys)) (ap (λ k. xs ++ (ys ++ copies k ys)) n) (c.loop-turn.invariant xs ys begins ends held)
+    let n : c.loop-turn._turn ≡ c.args.times = omega (arith, c.loop-turn-test.false) in
+    same-words c.loop-turn.self (xs ++ (ys ++ copies c.loop-turn._turn ys)) (xs ++ (ys ++ copies c.args.times ys)) (ap (λ k. xs ++ (ys ++ copies k ys)) n) (c.loop-turn.invariant xs ys begins ends held)

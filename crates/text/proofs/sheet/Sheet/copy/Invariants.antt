@@ -4,4 +4,4 @@ use Rattle.text.proofs.sheet.Sheet.copy.Given as goal
 
 abbrev pub invariant-loop-turn : goal.invariant-loop-turn
 invariant-loop-turn l =
-    (xs ys : List ℤ) → Behind xs l.from → Behind (xs ++ ys) l.to → Holds l.initial.self (xs ++ ys) → Holds l.self (xs ++ (ys ++ copies l.-turn ys))
+    (xs ys : List ℤ) → Behind xs l.from → Behind (xs ++ ys) l.to → Holds l.initial.self (xs ++ ys) → Holds l.self (xs ++ (ys ++ copies l._turn ys))

@@ -13,8 +13,8 @@ returns-then-self-le-CAPACITY c xs ys zs begins ends held =
     let back : length (ys ++ zs) ≡ length ys + length zs = length-append ys zs in
     let new : length (zs ++ ys) ≡ length zs + length ys = length-append zs ys in
     let k : c.args.middle - c.args.from ≡ length ys = omega arith in
-    replaced c.args.self.now xs (ys ++ zs) (zs ++ ys) c.rotate-left.new.self c.args.from begins c.if-self-le-CAPACITY.true (omega arith)
-    (λ mid. c.rotate-left.ensures.after ∙ turned ys zs _ (c.args.middle - c.args.from) k mid) held
+    replaced c.args.self.now xs (ys ++ zs) (zs ++ ys) c.rotate_left.new.self c.args.from begins c.if-self-le-CAPACITY.true (omega arith)
+    (λ mid. c.rotate_left.ensures.after ∙ turned ys zs _ (c.args.middle - c.args.from) k mid) held
 
 pub returns-else-from-middle : goal.returns-else-from-middle
 returns-else-from-middle c xs ys zs begins ends held =

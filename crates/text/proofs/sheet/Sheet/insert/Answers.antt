@@ -11,8 +11,8 @@ returns-then-self-le-CAPACITY c xs ys begins held =
     let w = c.args.word in
     let put : Holds c.put.new.self (xs ++ (ys ++ (w ∷ []))) = same-words c.put.new.self ((xs ++ ys) ++ (to_z w64 (of_z w64 w) ∷ [])) (xs ++ (ys ++ (w ∷ []))) (ap (λ u. (xs ++ ys) ++ (u ∷ [])) (to_z-of_z w64 w c.ranges.word) ∙ append_assoc xs ys (w ∷ [])) (c.put.ensures (xs ++ ys) held) in
     let long : length (ys ++ (w ∷ [])) ≡ length ys + 1 = length-append ys (w ∷ []) in
-    replaced c.put.new.self xs (ys ++ (w ∷ [])) (w ∷ ys) c.rotate-right.new.self c.args.from begins c.if-self-le-CAPACITY.true (omega arith)
-    (λ mid. c.rotate-right.ensures.after ∙ last-in-front ys w _ mid) put
+    replaced c.put.new.self xs (ys ++ (w ∷ [])) (w ∷ ys) c.rotate_right.new.self c.args.from begins c.if-self-le-CAPACITY.true (omega arith)
+    (λ mid. c.rotate_right.ensures.after ∙ last-in-front ys w _ mid) put
 
 pub returns-else-from-self : goal.returns-else-from-self
 returns-else-from-self c xs ys begins held =

@@ -13,58 +13,58 @@ use Rattle.grammar.proofs.Runs.{goes_on, stops, while-goes, while-stops, while-e
 use Rattle.text.proofs.Sheets.{same-words}
 use Rattle.text.proofs.Steps.{read_by, refused-by, chose, passed_over, closes, no_deeper-sum, deeper-sum, no_deeper-product, deeper-product, regrouped}
 use Rattle.text.proofs.source.Source.+added_factor_group_leading_negated_plus_plus_next_primary_product_sum_taken_times_times_next.Goals as goal
-use Rattle.text.proofs.source.Source.+added_factor_group_leading_negated_plus_plus_next_primary_product_sum_taken_times_times_next.Goals.{plus-else-c-ne43-via-then-c-ne43+else-c-ne45, plus-else-c-ne43-via-else-c-ne43, plus-next-else-may-arrow-via-then-may-arrow+else-front-eq62, plus-next-else-may-arrow-via-else-may-arrow}
+use Rattle.text.proofs.source.Source.+added_factor_group_leading_negated_plus_plus_next_primary_product_sum_taken_times_times_next.Goals.{plus-else-c-ne43-via-then-c-ne43+else-c-ne45, plus-else-c-ne43-via-else-c-ne43, plus_next-else-may_arrow-via-then-may_arrow+else-front-eq62, plus_next-else-may_arrow-via-else-may_arrow}
 
-pub added-returns-in-err-sign : goal.added-returns-in-err-sign
+pub added-returns-in_err-sign : goal.added-returns-in_err-sign
 unfolding added
-added-returns-in-err-sign m c xs t begins held =
-    refused-by _ _ c.from-residual.result _ _ (stops _ _ _ _ _ c.in-err-sign.ensures) c.from-residual.ensures.1
+added-returns-in_err-sign m c xs t begins held =
+    refused-by _ _ c.from_residual.result _ _ (stops _ _ _ _ _ c.in_err-sign.ensures) c.from_residual.ensures.1
 
-pub added-returns-in-err-product : goal.added-returns-in-err-product
+pub added-returns-in_err-product : goal.added-returns-in_err-product
 unfolding added
-added-returns-in-err-product m c xs t begins held =
-    refused-by _ _ c.from-residual-in-err-product.result _ _ (goes_on _ _ _ _ _ _ c.in-ok-sign.ensures ∙ stops _ _ _ _ _ (c.in-err-product.ensures (xs ++ term_words t) held)) c.from-residual-in-err-product.ensures.1
+added-returns-in_err-product m c xs t begins held =
+    refused-by _ _ c.from_residual-in_err-product.result _ _ (goes_on _ _ _ _ _ _ c.in_ok-sign.ensures ∙ stops _ _ _ _ _ (c.in_err-product.ensures (xs ++ term_words t) held)) c.from_residual-in_err-product.ensures.1
 
 pub added-returns : goal.added-returns
 unfolding added run term_words
 added-returns m c xs t begins held =
-    let p = c.in-ok-product.ensures (xs ++ term_words t) held in (
+    let p = c.in_ok-product.ensures (xs ++ term_words t) held in (
       record { term = Sum t p.0; arrow = false },
-      goes_on _ _ _ _ _ _ c.in-ok-sign.ensures ∙ goes_on _ _ _ _ _ _ p.1,
+      goes_on _ _ _ _ _ _ c.in_ok-sign.ensures ∙ goes_on _ _ _ _ _ _ p.1,
       (refl, c.insert.ensures xs (term_words t ++ term_words p.0) begins (regrouped c.product.new.sheet xs (term_words t) (term_words p.0) p.2)),
     )
 
-pub factor-returns-in-err-primary : goal.factor-returns-in-err-primary
+pub factor-returns-in_err-primary : goal.factor-returns-in_err-primary
 unfolding factor run
-factor-returns-in-err-primary m c xs held =
-    refused-by _ _ c.from-residual.result _ _ (stops _ _ _ _ _ (c.in-err-primary.ensures xs held)) c.from-residual.ensures.1
+factor-returns-in_err-primary m c xs held =
+    refused-by _ _ c.from_residual.result _ _ (stops _ _ _ _ _ (c.in_err-primary.ensures xs held)) c.from_residual.ensures.1
 
 pub factor-returns : goal.factor-returns
 unfolding factor run
 factor-returns m c xs held =
-    let p = c.in-ok-primary.ensures xs held in
+    let p = c.in_ok-primary.ensures xs held in
     read_by _ _ _ c.raised.result _ (goes_on _ _ _ _ _ _ p.1) (c.raised.ensures xs p.0 held.counted p.2)
 
-pub group-returns-in-err-sign : goal.group-returns-in-err-sign
+pub group-returns-in_err-sign : goal.group-returns-in_err-sign
 unfolding grouped
-group-returns-in-err-sign m c xs held =
-    refused-by _ _ c.from-residual.result _ _ (stops _ _ _ _ _ c.in-err-sign.ensures) c.from-residual.ensures.1
+group-returns-in_err-sign m c xs held =
+    refused-by _ _ c.from_residual.result _ _ (stops _ _ _ _ _ c.in_err-sign.ensures) c.from_residual.ensures.1
 
 pub group-returns-then-depth-eq0 : goal.group-returns-then-depth-eq0
 unfolding grouped run
 group-returns-then-depth-eq0 m c xs held =
-    goes_on _ _ _ _ _ _ c.in-ok-sign.ensures ∙ stops _ _ _ _ _ (ap (λ r. run r c.args.self.now.text.now c.sign.new.at) (no_deeper-sum c.args.self.now.names.now c.args.depth c.if-depth-eq0.true))
+    goes_on _ _ _ _ _ _ c.in_ok-sign.ensures ∙ stops _ _ _ _ _ (ap (λ r. run r c.args.self.now.text.now c.sign.new.at) (no_deeper-sum c.args.self.now.names.now c.args.depth c.if-depth-eq0.true))
 
-pub group-returns-in-err-sum : goal.group-returns-in-err-sum
+pub group-returns-in_err-sum : goal.group-returns-in_err-sum
 unfolding grouped
-group-returns-in-err-sum m c xs held =
-    refused-by _ _ c.from-residual-in-err-sum.result _ _ (goes_on _ _ _ _ _ _ c.in-ok-sign.ensures ∙ stops _ _ _ _ _ (ap (λ r. run r c.args.self.now.text.now c.sign.new.at) (deeper-sum c.args.self.now.names.now c.args.depth c.if-depth-eq0.false) ∙ stops _ _ _ _ _ (c.in-err-sum.ensures xs held))) c.from-residual-in-err-sum.ensures.1
+group-returns-in_err-sum m c xs held =
+    refused-by _ _ c.from_residual-in_err-sum.result _ _ (goes_on _ _ _ _ _ _ c.in_ok-sign.ensures ∙ stops _ _ _ _ _ (ap (λ r. run r c.args.self.now.text.now c.sign.new.at) (deeper-sum c.args.self.now.names.now c.args.depth c.if-depth-eq0.false) ∙ stops _ _ _ _ _ (c.in_err-sum.ensures xs held))) c.from_residual-in_err-sum.ensures.1
 
 pub group-returns : goal.group-returns
 unfolding grouped run
 group-returns m c xs held =
-    let p = c.in-ok-sum.ensures xs held in
-    read_by _ _ _ c.sign-2.result _ (goes_on _ _ _ _ _ _ c.in-ok-sign.ensures ∙ goes_on _ _ _ _ _ _ (ap (λ r. run r c.args.self.now.text.now c.sign.new.at) (deeper-sum c.args.self.now.names.now c.args.depth c.if-depth-eq0.false) ∙ goes_on _ _ _ _ _ _ p.1))
+    let p = c.in_ok-sum.ensures xs held in
+    read_by _ _ _ c.sign-2.result _ (goes_on _ _ _ _ _ _ c.in_ok-sign.ensures ∙ goes_on _ _ _ _ _ _ (ap (λ r. run r c.args.self.now.text.now c.sign.new.at) (deeper-sum c.args.self.now.names.now c.args.depth c.if-depth-eq0.false) ∙ goes_on _ _ _ _ _ _ p.1))
     (closes _ (sign (41 ∷ [])) p.0.term _ _ c.sign-2.result _ c.sign-2.ensures (λ _. p.2.1))
 
 pub leading-returns-then-front-eq45 : goal.leading-returns-then-front-eq45
@@ -77,27 +77,27 @@ unfolding leading_of
 leading-returns-else-front-eq45 m c xs held =
     read_by _ _ _ c.product.result _ (passed_over _ _ _ _ _ (ne_eqb _ 45 (λ e. c.if-front-eq45.false (c.front.ensures ∙ e)))) (c.product.ensures xs held)
 
-pub negated-returns-in-err-sign : goal.negated-returns-in-err-sign
+pub negated-returns-in_err-sign : goal.negated-returns-in_err-sign
 unfolding negated
-negated-returns-in-err-sign m c xs held =
-    refused-by _ _ c.from-residual.result _ _ (stops _ _ _ _ _ c.in-err-sign.ensures) c.from-residual.ensures.1
+negated-returns-in_err-sign m c xs held =
+    refused-by _ _ c.from_residual.result _ _ (stops _ _ _ _ _ c.in_err-sign.ensures) c.from_residual.ensures.1
 
 pub negated-returns-then-depth-eq0 : goal.negated-returns-then-depth-eq0
 unfolding negated run
 negated-returns-then-depth-eq0 m c xs held =
-    goes_on _ _ _ _ _ _ c.in-ok-sign.ensures ∙ stops _ _ _ _ _ (ap (λ r. run r c.args.self.now.text.now c.sign.new.at) (no_deeper-product c.args.self.now.names.now c.args.depth c.if-depth-eq0.true))
+    goes_on _ _ _ _ _ _ c.in_ok-sign.ensures ∙ stops _ _ _ _ _ (ap (λ r. run r c.args.self.now.text.now c.sign.new.at) (no_deeper-product c.args.self.now.names.now c.args.depth c.if-depth-eq0.true))
 
-pub negated-returns-in-err-product : goal.negated-returns-in-err-product
+pub negated-returns-in_err-product : goal.negated-returns-in_err-product
 unfolding negated
-negated-returns-in-err-product m c xs held =
-    refused-by _ _ c.from-residual-in-err-product.result _ _ (goes_on _ _ _ _ _ _ c.in-ok-sign.ensures ∙ stops _ _ _ _ _ (ap (λ r. run r c.args.self.now.text.now c.sign.new.at) (deeper-product c.args.self.now.names.now c.args.depth c.if-depth-eq0.false) ∙ c.in-err-product.ensures xs held)) c.from-residual-in-err-product.ensures.1
+negated-returns-in_err-product m c xs held =
+    refused-by _ _ c.from_residual-in_err-product.result _ _ (goes_on _ _ _ _ _ _ c.in_ok-sign.ensures ∙ stops _ _ _ _ _ (ap (λ r. run r c.args.self.now.text.now c.sign.new.at) (deeper-product c.args.self.now.names.now c.args.depth c.if-depth-eq0.false) ∙ c.in_err-product.ensures xs held)) c.from_residual-in_err-product.ensures.1
 
 pub negated-returns : goal.negated-returns
 unfolding negated run term_words
 negated-returns m c xs held =
-    let p = c.in-ok-product.ensures xs held in (
+    let p = c.in_ok-product.ensures xs held in (
       negative p.0,
-      goes_on _ _ _ _ _ _ c.in-ok-sign.ensures ∙ goes_on _ _ _ _ _ _ (ap (λ r. run r c.args.self.now.text.now c.sign.new.at) (deeper-product c.args.self.now.names.now c.args.depth c.if-depth-eq0.false) ∙ p.1),
+      goes_on _ _ _ _ _ _ c.in_ok-sign.ensures ∙ goes_on _ _ _ _ _ _ (ap (λ r. run r c.args.self.now.text.now c.sign.new.at) (deeper-product c.args.self.now.names.now c.args.depth c.if-depth-eq0.false) ∙ p.1),
       c.negate.ensures xs (term_words p.0) held.counted p.2,
     )
 
@@ -111,21 +111,21 @@ unfolding plus_for
 plus-returns-then-c-ne45 m c xs t begins held =
     let i = c.loop-turn.invariant xs t begins held in (
       record { term = i.0; arrow = false },
-      i.1 ∙ while-ended begins_summand (plus_next c.args.self.now.names.now (nest c.args.self.now.names.now c.args.depth) c.args.may-arrow) _ (record { term = i.0; arrow = false }) c.args.self.now.text.now c.loop-turn.at
+      i.1 ∙ while-ended begins_summand (plus_next c.args.self.now.names.now (nest c.args.self.now.names.now c.args.depth) c.args.may_arrow) _ (record { term = i.0; arrow = false }) c.args.self.now.text.now c.loop-turn.at
           (or_from _ _ (ne_eqb _ 43 (λ e. c.if-c-ne43.true (c.front-c.ensures ∙ e))) (ne_eqb _ 45 (λ e. c.if-c-ne45.true (c.front-c.ensures ∙ e)))),
       (refl, i.2),
     )
 
-pub plus-returns-in-err-plus-next : goal.plus-returns-in-err-plus-next
+pub plus-returns-in_err-plus_next : goal.plus-returns-in_err-plus_next
 unfolding plus_for plus_next run
-plus-returns-in-err-plus-next m c xs t begins held =
+plus-returns-in_err-plus_next m c xs t begins held =
     let i = c.loop-turn.invariant xs t begins held in
     let sign-here : (eqb (get_or c.args.self.now.text.now c.loop-turn.at 0) 43 || eqb (get_or c.args.self.now.text.now c.loop-turn.at 0) 45) ≡ true =
     elim c.else-c-ne43.branch [
       | plus-else-c-ne43-via-then-c-ne43+else-c-ne45 v ↦ or_right _ _ (eq-eqb _ 45 (sym c.front-c.ensures ∙ v.if-c-ne45.false))
       | plus-else-c-ne43-via-else-c-ne43 v ↦ or_left _ _ (eq-eqb _ 43 (sym c.front-c.ensures ∙ v.if-c-ne43.false))
     ] in
-    refused-by _ _ c.from-residual.result _ _ (i.1 ∙ while-stops begins_summand (plus_next c.args.self.now.names.now (nest c.args.self.now.names.now c.args.depth) c.args.may-arrow) 65536 c.loop-turn.-turn (record { term = i.0; arrow = false }) c.args.self.now.text.now c.loop-turn.at _ c.loop-turn-test.true sign-here (c.in-err-plus-next.ensures xs i.0 begins i.2)) c.from-residual.ensures.1
+    refused-by _ _ c.from_residual.result _ _ (i.1 ∙ while-stops begins_summand (plus_next c.args.self.now.names.now (nest c.args.self.now.names.now c.args.depth) c.args.may_arrow) 65536 c.loop-turn._turn (record { term = i.0; arrow = false }) c.args.self.now.text.now c.loop-turn.at _ c.loop-turn-test.true sign-here (c.in_err-plus_next.ensures xs i.0 begins i.2)) c.from_residual.ensures.1
 
 pub plus-returns-then-branch : goal.plus-returns-then-branch
 unfolding plus_for plus_next run
@@ -136,10 +136,10 @@ plus-returns-then-branch m c xs t begins held =
       | plus-else-c-ne43-via-then-c-ne43+else-c-ne45 v ↦ or_right _ _ (eq-eqb _ 45 (sym c.front-c.ensures ∙ v.if-c-ne45.false))
       | plus-else-c-ne43-via-else-c-ne43 v ↦ or_left _ _ (eq-eqb _ 43 (sym c.front-c.ensures ∙ v.if-c-ne43.false))
     ] in
-    let n = c.in-ok-plus-next.ensures xs i.0 begins i.2 in (
+    let n = c.in_ok-plus_next.ensures xs i.0 begins i.2 in (
       n.0,
-      i.1 ∙ while-goes begins_summand (plus_next c.args.self.now.names.now (nest c.args.self.now.names.now c.args.depth) c.args.may-arrow) 65536 c.loop-turn.-turn (record { term = i.0; arrow = false }) c.args.self.now.text.now c.loop-turn.at n.0 _ c.loop-turn-test.true sign-here n.1 ∙
-          while-ended begins_summand (plus_next c.args.self.now.names.now (nest c.args.self.now.names.now c.args.depth) c.args.may-arrow) _ n.0 c.args.self.now.text.now c.plus-next.new.at (and_left _ _ (ap not (n.2.0 ∙ c.if-branch.true))),
+      i.1 ∙ while-goes begins_summand (plus_next c.args.self.now.names.now (nest c.args.self.now.names.now c.args.depth) c.args.may_arrow) 65536 c.loop-turn._turn (record { term = i.0; arrow = false }) c.args.self.now.text.now c.loop-turn.at n.0 _ c.loop-turn-test.true sign-here n.1 ∙
+          while-ended begins_summand (plus_next c.args.self.now.names.now (nest c.args.self.now.names.now c.args.depth) c.args.may_arrow) _ n.0 c.args.self.now.text.now c.plus_next.new.at (and_left _ _ (ap not (n.2.0 ∙ c.if-branch.true))),
       (n.2.0 ∙ c.if-branch.true, n.2.1),
     )
 
@@ -152,10 +152,10 @@ plus-loop-turn-preserved m c xs t begins held =
       | plus-else-c-ne43-via-then-c-ne43+else-c-ne45 v ↦ or_right _ _ (eq-eqb _ 45 (sym c.front-c.ensures ∙ v.if-c-ne45.false))
       | plus-else-c-ne43-via-else-c-ne43 v ↦ or_left _ _ (eq-eqb _ 43 (sym c.front-c.ensures ∙ v.if-c-ne43.false))
     ] in
-    let n = c.in-ok-plus-next.ensures xs i.0 begins i.2 in (
+    let n = c.in_ok-plus_next.ensures xs i.0 begins i.2 in (
       n.0.term,
-      i.1 ∙ while-goes begins_summand (plus_next c.args.self.now.names.now (nest c.args.self.now.names.now c.args.depth) c.args.may-arrow) 65536 c.loop-turn.-turn (record { term = i.0; arrow = false }) c.args.self.now.text.now c.loop-turn.at n.0 _ c.loop-turn-test.true sign-here n.1 ∙
-          ap (λ b. run (plus_for (65536 - (c.loop-turn.-turn + 1)) c.args.self.now.names.now (nest c.args.self.now.names.now c.args.depth) c.args.may-arrow (record { term = n.0.term; arrow = b })) c.args.self.now.text.now c.plus-next.new.at) (n.2.0 ∙ c.if-branch.false),
+      i.1 ∙ while-goes begins_summand (plus_next c.args.self.now.names.now (nest c.args.self.now.names.now c.args.depth) c.args.may_arrow) 65536 c.loop-turn._turn (record { term = i.0; arrow = false }) c.args.self.now.text.now c.loop-turn.at n.0 _ c.loop-turn-test.true sign-here n.1 ∙
+          ap (λ b. run (plus_for (65536 - (c.loop-turn._turn + 1)) c.args.self.now.names.now (nest c.args.self.now.names.now c.args.depth) c.args.may_arrow (record { term = n.0.term; arrow = b })) c.args.self.now.text.now c.plus_next.new.at) (n.2.0 ∙ c.if-branch.false),
       n.2.1,
     )
 
@@ -163,89 +163,89 @@ pub plus-returns : goal.plus-returns
 unfolding plus_for
 plus-returns m c xs t begins held =
     let i = c.loop-turn.invariant xs t begins held in
-    (record { term = i.0; arrow = false }, i.1 ∙ while-over begins_summand (plus_next c.args.self.now.names.now (nest c.args.self.now.names.now c.args.depth) c.args.may-arrow) 65536 c.loop-turn.-turn (record { term = i.0; arrow = false }) c.args.self.now.text.now c.loop-turn.at c.loop-turn-test.false, (refl, i.2))
+    (record { term = i.0; arrow = false }, i.1 ∙ while-over begins_summand (plus_next c.args.self.now.names.now (nest c.args.self.now.names.now c.args.depth) c.args.may_arrow) 65536 c.loop-turn._turn (record { term = i.0; arrow = false }) c.args.self.now.text.now c.loop-turn.at c.loop-turn-test.false, (refl, i.2))
 
-pub plus-next-returns-then-front-eq43 : goal.plus-next-returns-then-front-eq43
+pub plus_next-returns-then-front-eq43 : goal.plus_next-returns-then-front-eq43
 unfolding summand_of
-plus-next-returns-then-front-eq43 m c xs t begins held =
+plus_next-returns-then-front-eq43 m c xs t begins held =
     read_by _ _ _ c.added.result _ (chose _ _ _ _ _ (eq-eqb _ 43 (sym c.front.ensures ∙ c.if-front-eq43.true))) (c.added.ensures xs t begins held)
 
-pub plus-next-returns-in-err-sign : goal.plus-next-returns-in-err-sign
+pub plus_next-returns-in_err-sign : goal.plus_next-returns-in_err-sign
 unfolding summand_of taken_of run
-plus-next-returns-in-err-sign m c xs t begins held =
-    refused-by _ _ c.from-residual.result _ _ (passed_over _ _ _ _ _ (ne_eqb _ 43 (λ e. c.if-front-eq43.false (c.front.ensures ∙ e))) ∙ ap (λ n. run (Look (taken_of c.args.self.now.names.now (nest c.args.self.now.names.now c.args.depth) c.args.may-arrow t)) c.args.self.now.text.now n) (sym c.pass.ensures) ∙ chose _ _ _ _ _ (and_from _ _ c.if-may-arrow.true (eq-eqb _ 62 (sym c.front-then-may-arrow.ensures ∙ c.if-front-eq62.true))) ∙ stops _ _ _ _ _ c.in-err-sign.ensures) c.from-residual.ensures.1
+plus_next-returns-in_err-sign m c xs t begins held =
+    refused-by _ _ c.from_residual.result _ _ (passed_over _ _ _ _ _ (ne_eqb _ 43 (λ e. c.if-front-eq43.false (c.front.ensures ∙ e))) ∙ ap (λ n. run (Look (taken_of c.args.self.now.names.now (nest c.args.self.now.names.now c.args.depth) c.args.may_arrow t)) c.args.self.now.text.now n) (sym c.pass.ensures) ∙ chose _ _ _ _ _ (and_from _ _ c.if-may_arrow.true (eq-eqb _ 62 (sym c.front-then-may_arrow.ensures ∙ c.if-front-eq62.true))) ∙ stops _ _ _ _ _ c.in_err-sign.ensures) c.from_residual.ensures.1
 
-pub plus-next-returns-then-front-eq62 : goal.plus-next-returns-then-front-eq62
+pub plus_next-returns-then-front-eq62 : goal.plus_next-returns-then-front-eq62
 unfolding summand_of taken_of run
-plus-next-returns-then-front-eq62 m c xs t begins held =
-    (record { term = t; arrow = true }, passed_over _ _ _ _ _ (ne_eqb _ 43 (λ e. c.if-front-eq43.false (c.front.ensures ∙ e))) ∙ ap (λ n. run (Look (taken_of c.args.self.now.names.now (nest c.args.self.now.names.now c.args.depth) c.args.may-arrow t)) c.args.self.now.text.now n) (sym c.pass.ensures) ∙ chose _ _ _ _ _ (and_from _ _ c.if-may-arrow.true (eq-eqb _ 62 (sym c.front-then-may-arrow.ensures ∙ c.if-front-eq62.true))) ∙ goes_on _ _ _ _ _ _ c.in-ok-sign.ensures, (refl, held))
+plus_next-returns-then-front-eq62 m c xs t begins held =
+    (record { term = t; arrow = true }, passed_over _ _ _ _ _ (ne_eqb _ 43 (λ e. c.if-front-eq43.false (c.front.ensures ∙ e))) ∙ ap (λ n. run (Look (taken_of c.args.self.now.names.now (nest c.args.self.now.names.now c.args.depth) c.args.may_arrow t)) c.args.self.now.text.now n) (sym c.pass.ensures) ∙ chose _ _ _ _ _ (and_from _ _ c.if-may_arrow.true (eq-eqb _ 62 (sym c.front-then-may_arrow.ensures ∙ c.if-front-eq62.true))) ∙ goes_on _ _ _ _ _ _ c.in_ok-sign.ensures, (refl, held))
 
-pub plus-next-returns : goal.plus-next-returns
+pub plus_next-returns : goal.plus_next-returns
 unfolding summand_of taken_of run
-plus-next-returns m c xs t begins held =
-    let no-arrow : (c.args.may-arrow && eqb (get_or c.args.self.now.text.now c.pass.new.at 0) 62) ≡ false =
-    elim c.else-may-arrow.branch [
-      | plus-next-else-may-arrow-via-then-may-arrow+else-front-eq62 v ↦ and_right _ _ (ne_eqb _ 62 (λ e. v.if-front-eq62.false (v.front-then-may-arrow.ensures ∙ e)))
-      | plus-next-else-may-arrow-via-else-may-arrow v ↦ and_left _ _ v.if-may-arrow.false
+plus_next-returns m c xs t begins held =
+    let no-arrow : (c.args.may_arrow && eqb (get_or c.args.self.now.text.now c.pass.new.at 0) 62) ≡ false =
+    elim c.else-may_arrow.branch [
+      | plus_next-else-may_arrow-via-then-may_arrow+else-front-eq62 v ↦ and_right _ _ (ne_eqb _ 62 (λ e. v.if-front-eq62.false (v.front-then-may_arrow.ensures ∙ e)))
+      | plus_next-else-may_arrow-via-else-may_arrow v ↦ and_left _ _ v.if-may_arrow.false
     ] in
-    read_by _ _ _ c.taken.result _ (passed_over _ _ _ _ _ (ne_eqb _ 43 (λ e. c.if-front-eq43.false (c.front.ensures ∙ e))) ∙ ap (λ n. run (Look (taken_of c.args.self.now.names.now (nest c.args.self.now.names.now c.args.depth) c.args.may-arrow t)) c.args.self.now.text.now n) (sym c.pass.ensures) ∙ passed_over _ _ _ _ _ no-arrow) (c.taken.ensures xs t begins held)
+    read_by _ _ _ c.taken.result _ (passed_over _ _ _ _ _ (ne_eqb _ 43 (λ e. c.if-front-eq43.false (c.front.ensures ∙ e))) ∙ ap (λ n. run (Look (taken_of c.args.self.now.names.now (nest c.args.self.now.names.now c.args.depth) c.args.may_arrow t)) c.args.self.now.text.now n) (sym c.pass.ensures) ∙ passed_over _ _ _ _ _ no-arrow) (c.taken.ensures xs t begins held)
 
-pub primary-returns-in-err-word : goal.primary-returns-in-err-word
+pub primary-returns-in_err-word : goal.primary-returns-in_err-word
 unfolding primary_of
-primary-returns-in-err-word m c xs held =
-    refused-by _ _ c.from-residual.result _ _ (chose _ _ _ _ _ (ap is_letter (sym c.front-c.ensures) ∙ sym c.if-is-letter.ensures) ∙ stops _ _ _ _ _ c.in-err-word.ensures) c.from-residual.ensures.1
+primary-returns-in_err-word m c xs held =
+    refused-by _ _ c.from_residual.result _ _ (chose _ _ _ _ _ (ap is_letter (sym c.front-c.ensures) ∙ sym c.if-is_letter.ensures) ∙ stops _ _ _ _ _ c.in_err-word.ensures) c.from_residual.ensures.1
 
-pub primary-returns-then-is-letter : goal.primary-returns-then-is-letter
+pub primary-returns-then-is_letter : goal.primary-returns-then-is_letter
 unfolding primary_of
-primary-returns-then-is-letter m c xs held =
-    read_by _ _ _ c.named.result _ (chose _ _ _ _ _ (ap is_letter (sym c.front-c.ensures) ∙ sym c.if-is-letter.ensures) ∙ goes_on _ _ _ _ _ _ c.in-ok-word.ensures) (c.named.ensures xs held)
+primary-returns-then-is_letter m c xs held =
+    read_by _ _ _ c.named.result _ (chose _ _ _ _ _ (ap is_letter (sym c.front-c.ensures) ∙ sym c.if-is_letter.ensures) ∙ goes_on _ _ _ _ _ _ c.in_ok-word.ensures) (c.named.ensures xs held)
 
-pub primary-returns-then-is-digit : goal.primary-returns-then-is-digit
+pub primary-returns-then-is_digit : goal.primary-returns-then-is_digit
 unfolding primary_of run term_words
-primary-returns-then-is-digit m c xs held = (
+primary-returns-then-is_digit m c xs held = (
   Num (pos c.number-number.result),
-  passed_over _ _ _ _ _ (ap is_letter (sym c.front-c.ensures) ∙ sym c.if-is-letter.ensures) ∙ chose _ _ _ _ _ (ap is_digit (sym c.front-c.ensures) ∙ sym c.if-is-digit.ensures) ∙ goes_on _ _ _ _ _ _ c.number-number.ensures,
+  passed_over _ _ _ _ _ (ap is_letter (sym c.front-c.ensures) ∙ sym c.if-is_letter.ensures) ∙ chose _ _ _ _ _ (ap is_digit (sym c.front-c.ensures) ∙ sym c.if-is_digit.ensures) ∙ goes_on _ _ _ _ _ _ c.number-number.ensures,
   let fits : SFits w64 (pos c.number-number.result) = search rules in
-      regrouped c.put-then-is-digit.new.self xs (pos 7 ∷ []) (pos c.number-number.result ∷ [])
-      (same-words c.put-then-is-digit.new.self _ _ (ap (λ u. (xs ++ (pos 7 ∷ [])) ++ (u ∷ [])) (to_z-of_z w64 (pos c.number-number.result) fits)) (c.put-then-is-digit.ensures (xs ++ (pos 7 ∷ [])) (c.put.ensures xs held))),
+      regrouped c.put-then-is_digit.new.self xs (pos 7 ∷ []) (pos c.number-number.result ∷ [])
+      (same-words c.put-then-is_digit.new.self _ _ (ap (λ u. (xs ++ (pos 7 ∷ [])) ++ (u ∷ [])) (to_z-of_z w64 (pos c.number-number.result) fits)) (c.put-then-is_digit.ensures (xs ++ (pos 7 ∷ [])) (c.put.ensures xs held))),
 )
 
 pub primary-returns : goal.primary-returns
 unfolding primary_of
 primary-returns m c xs held =
-    read_by _ _ _ c.group.result _ (passed_over _ _ _ _ _ (ap is_letter (sym c.front-c.ensures) ∙ sym c.if-is-letter.ensures) ∙ passed_over _ _ _ _ _ (ap is_digit (sym c.front-c.ensures) ∙ sym c.if-is-digit.ensures)) (c.group.ensures xs held)
+    read_by _ _ _ c.group.result _ (passed_over _ _ _ _ _ (ap is_letter (sym c.front-c.ensures) ∙ sym c.if-is_letter.ensures) ∙ passed_over _ _ _ _ _ (ap is_digit (sym c.front-c.ensures) ∙ sym c.if-is_digit.ensures)) (c.group.ensures xs held)
 
-pub product-returns-in-err-factor : goal.product-returns-in-err-factor
+pub product-returns-in_err-factor : goal.product-returns-in_err-factor
 unfolding product
-product-returns-in-err-factor m c xs held =
-    refused-by _ _ c.from-residual.result _ _ (stops _ _ _ _ _ (c.in-err-factor.ensures xs held)) c.from-residual.ensures.1
+product-returns-in_err-factor m c xs held =
+    refused-by _ _ c.from_residual.result _ _ (stops _ _ _ _ _ (c.in_err-factor.ensures xs held)) c.from_residual.ensures.1
 
 pub product-returns : goal.product-returns
 unfolding product
 product-returns m c xs held =
-    let p = c.in-ok-factor.ensures xs held in
+    let p = c.in_ok-factor.ensures xs held in
     read_by _ _ _ c.times.result _ (goes_on _ _ _ _ _ _ p.1) (c.times.ensures xs p.0 held.counted p.2)
 
-pub sum-returns-in-err-leading : goal.sum-returns-in-err-leading
+pub sum-returns-in_err-leading : goal.sum-returns-in_err-leading
 unfolding sum run
-sum-returns-in-err-leading m c xs held =
-    refused-by _ _ c.from-residual.result _ _ (stops (Look (leading_of c.args.self.now.names.now (nest c.args.self.now.names.now c.args.depth))) _ _ _ _ (c.in-err-leading.ensures xs held)) c.from-residual.ensures.1
+sum-returns-in_err-leading m c xs held =
+    refused-by _ _ c.from_residual.result _ _ (stops (Look (leading_of c.args.self.now.names.now (nest c.args.self.now.names.now c.args.depth))) _ _ _ _ (c.in_err-leading.ensures xs held)) c.from_residual.ensures.1
 
 pub sum-returns : goal.sum-returns
 unfolding sum run
 sum-returns m c xs held =
-    let p = c.in-ok-leading.ensures xs held in
+    let p = c.in_ok-leading.ensures xs held in
     read_by _ _ _ c.plus.result _ (goes_on (Look (leading_of c.args.self.now.names.now (nest c.args.self.now.names.now c.args.depth))) _ _ _ _ _ p.1) (c.plus.ensures xs p.0 held.counted p.2)
 
-pub taken-returns-in-err-product : goal.taken-returns-in-err-product
+pub taken-returns-in_err-product : goal.taken-returns-in_err-product
 unfolding taken
-taken-returns-in-err-product m c xs t begins held =
-    refused-by _ _ c.from-residual.result _ _ (goes_on _ _ _ _ _ _ c.blanks.ensures ∙ stops _ _ _ _ _ (c.in-err-product.ensures (xs ++ term_words t) held)) c.from-residual.ensures.1
+taken-returns-in_err-product m c xs t begins held =
+    refused-by _ _ c.from_residual.result _ _ (goes_on _ _ _ _ _ _ c.blanks.ensures ∙ stops _ _ _ _ _ (c.in_err-product.ensures (xs ++ term_words t) held)) c.from_residual.ensures.1
 
 pub taken-returns : goal.taken-returns
 unfolding taken run term_words
 taken-returns m c xs t begins held =
-    let p = c.in-ok-product.ensures (xs ++ term_words t) held in (
+    let p = c.in_ok-product.ensures (xs ++ term_words t) held in (
       record { term = difference t p.0; arrow = false },
       goes_on _ _ _ _ _ _ c.blanks.ensures ∙ goes_on _ _ _ _ _ _ p.1,
       (
@@ -261,40 +261,40 @@ times-returns-then-front-ne42 m c xs t begins held =
     let i = c.loop-turn.invariant xs t begins held in
     (i.0, i.1 ∙ while-ended (λ _ d. eqb d 42) (times_next c.args.self.now.names.now (nest c.args.self.now.names.now c.args.depth)) _ i.0 c.args.self.now.text.now c.loop-turn.at (ne_eqb _ 42 (λ e. c.if-front-ne42.true (c.front.ensures ∙ e))), i.2)
 
-pub times-returns-in-err-times-next : goal.times-returns-in-err-times-next
+pub times-returns-in_err-times_next : goal.times-returns-in_err-times_next
 unfolding times_for
-times-returns-in-err-times-next m c xs t begins held =
+times-returns-in_err-times_next m c xs t begins held =
     let i = c.loop-turn.invariant xs t begins held in
-    refused-by _ _ c.from-residual.result _ _ (i.1 ∙ while-stops (λ _ d. eqb d 42) (times_next c.args.self.now.names.now (nest c.args.self.now.names.now c.args.depth)) 65536 c.loop-turn.-turn i.0 c.args.self.now.text.now c.loop-turn.at _ c.loop-turn-test.true (eq-eqb _ 42 (sym c.front.ensures ∙ c.if-front-ne42.false)) (c.in-err-times-next.ensures xs i.0 begins i.2)) c.from-residual.ensures.1
+    refused-by _ _ c.from_residual.result _ _ (i.1 ∙ while-stops (λ _ d. eqb d 42) (times_next c.args.self.now.names.now (nest c.args.self.now.names.now c.args.depth)) 65536 c.loop-turn._turn i.0 c.args.self.now.text.now c.loop-turn.at _ c.loop-turn-test.true (eq-eqb _ 42 (sym c.front.ensures ∙ c.if-front-ne42.false)) (c.in_err-times_next.ensures xs i.0 begins i.2)) c.from_residual.ensures.1
 
 pub times-loop-turn-preserved : goal.times-loop-turn-preserved
 unfolding times_for
 times-loop-turn-preserved m c xs t begins held =
     let i = c.loop-turn.invariant xs t begins held in
-    let n = c.in-ok-times-next.ensures xs i.0 begins i.2 in
-    (n.0, i.1 ∙ while-goes (λ _ d. eqb d 42) (times_next c.args.self.now.names.now (nest c.args.self.now.names.now c.args.depth)) 65536 c.loop-turn.-turn i.0 c.args.self.now.text.now c.loop-turn.at n.0 _ c.loop-turn-test.true (eq-eqb _ 42 (sym c.front.ensures ∙ c.if-front-ne42.false)) n.1, n.2)
+    let n = c.in_ok-times_next.ensures xs i.0 begins i.2 in
+    (n.0, i.1 ∙ while-goes (λ _ d. eqb d 42) (times_next c.args.self.now.names.now (nest c.args.self.now.names.now c.args.depth)) 65536 c.loop-turn._turn i.0 c.args.self.now.text.now c.loop-turn.at n.0 _ c.loop-turn-test.true (eq-eqb _ 42 (sym c.front.ensures ∙ c.if-front-ne42.false)) n.1, n.2)
 
 pub times-returns : goal.times-returns
 unfolding times_for
 times-returns m c xs t begins held =
     let i = c.loop-turn.invariant xs t begins held in
-    (i.0, i.1 ∙ while-over (λ _ d. eqb d 42) (times_next c.args.self.now.names.now (nest c.args.self.now.names.now c.args.depth)) 65536 c.loop-turn.-turn i.0 c.args.self.now.text.now c.loop-turn.at c.loop-turn-test.false, i.2)
+    (i.0, i.1 ∙ while-over (λ _ d. eqb d 42) (times_next c.args.self.now.names.now (nest c.args.self.now.names.now c.args.depth)) 65536 c.loop-turn._turn i.0 c.args.self.now.text.now c.loop-turn.at c.loop-turn-test.false, i.2)
 
-pub times-next-returns-in-err-sign : goal.times-next-returns-in-err-sign
+pub times_next-returns-in_err-sign : goal.times_next-returns-in_err-sign
 unfolding times_next
-times-next-returns-in-err-sign m c xs t begins held =
-    refused-by _ _ c.from-residual.result _ _ (stops _ _ _ _ _ c.in-err-sign.ensures) c.from-residual.ensures.1
+times_next-returns-in_err-sign m c xs t begins held =
+    refused-by _ _ c.from_residual.result _ _ (stops _ _ _ _ _ c.in_err-sign.ensures) c.from_residual.ensures.1
 
-pub times-next-returns-in-err-factor : goal.times-next-returns-in-err-factor
+pub times_next-returns-in_err-factor : goal.times_next-returns-in_err-factor
 unfolding times_next
-times-next-returns-in-err-factor m c xs t begins held =
-    refused-by _ _ c.from-residual-in-err-factor.result _ _ (goes_on _ _ _ _ _ _ c.in-ok-sign.ensures ∙ stops _ _ _ _ _ (c.in-err-factor.ensures (xs ++ term_words t) held)) c.from-residual-in-err-factor.ensures.1
+times_next-returns-in_err-factor m c xs t begins held =
+    refused-by _ _ c.from_residual-in_err-factor.result _ _ (goes_on _ _ _ _ _ _ c.in_ok-sign.ensures ∙ stops _ _ _ _ _ (c.in_err-factor.ensures (xs ++ term_words t) held)) c.from_residual-in_err-factor.ensures.1
 
-pub times-next-returns : goal.times-next-returns
+pub times_next-returns : goal.times_next-returns
 unfolding times_next run term_words
-times-next-returns m c xs t begins held =
-    let p = c.in-ok-factor.ensures (xs ++ term_words t) held in (
+times_next-returns m c xs t begins held =
+    let p = c.in_ok-factor.ensures (xs ++ term_words t) held in (
       Product t p.0,
-      goes_on _ _ _ _ _ _ c.in-ok-sign.ensures ∙ goes_on _ _ _ _ _ _ p.1,
+      goes_on _ _ _ _ _ _ c.in_ok-sign.ensures ∙ goes_on _ _ _ _ _ _ p.1,
       c.insert.ensures xs (term_words t ++ term_words p.0) begins (regrouped c.factor.new.sheet xs (term_words t) (term_words p.0) p.2),
     )

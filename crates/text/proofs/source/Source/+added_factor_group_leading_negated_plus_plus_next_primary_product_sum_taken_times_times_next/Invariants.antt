@@ -11,14 +11,14 @@ abbrev pub invariant-times-loop-turn : goal.invariant-times-loop-turn
 invariant-times-loop-turn l =
     (xs : List ℤ) (t : Term) → Behind xs l.from → Holds l.initial.sheet (xs ++ term_words t) →
     (s : Term) × (run (times l.self.names.now (nest l.self.names.now l.depth) t) l.self.text.now l.initial.at ≡
-    run (times_for (65536 - l.-turn) l.self.names.now (nest l.self.names.now l.depth) s) l.self.text.now l.at) ×
+    run (times_for (65536 - l._turn) l.self.names.now (nest l.self.names.now l.depth) s) l.self.text.now l.at) ×
     Holds l.sheet (xs ++ term_words s)
 
 abbrev pub invariant-plus-loop-turn : goal.invariant-plus-loop-turn
 invariant-plus-loop-turn l =
     (xs : List ℤ) (t : Term) → Behind xs l.from → Holds l.initial.sheet (xs ++ term_words t) →
-    (s : Term) × (run (plus l.self.names.now (nest l.self.names.now l.depth) l.may-arrow t) l.self.text.now l.initial.at ≡
-    run (plus_for (65536 - l.-turn) l.self.names.now (nest l.self.names.now l.depth) l.may-arrow (record { term = s; arrow = false })) l.self.text.now l.at) ×
+    (s : Term) × (run (plus l.self.names.now (nest l.self.names.now l.depth) l.may_arrow t) l.self.text.now l.initial.at ≡
+    run (plus_for (65536 - l._turn) l.self.names.now (nest l.self.names.now l.depth) l.may_arrow (record { term = s; arrow = false })) l.self.text.now l.at) ×
     Holds l.sheet (xs ++ term_words s)
 
 abbrev pub decreases-group : goal.decreases-group
@@ -30,8 +30,8 @@ decreases-primary l = l.depth * 10 + 1
 abbrev pub decreases-factor : goal.decreases-factor
 decreases-factor l = l.depth * 10 + 2
 
-abbrev pub decreases-times-next : goal.decreases-times-next
-decreases-times-next l = l.depth * 10 + 3
+abbrev pub decreases-times_next : goal.decreases-times_next
+decreases-times_next l = l.depth * 10 + 3
 
 abbrev pub decreases-times : goal.decreases-times
 decreases-times l = l.depth * 10 + 4
@@ -48,8 +48,8 @@ decreases-taken l = l.depth * 10 + 6
 abbrev pub decreases-added : goal.decreases-added
 decreases-added l = l.depth * 10 + 6
 
-abbrev pub decreases-plus-next : goal.decreases-plus-next
-decreases-plus-next l = l.depth * 10 + 7
+abbrev pub decreases-plus_next : goal.decreases-plus_next
+decreases-plus_next l = l.depth * 10 + 7
 
 abbrev pub decreases-plus : goal.decreases-plus
 decreases-plus l = l.depth * 10 + 8

@@ -18,29 +18,29 @@ use Rattle.text.proofs.Steps.{read_by, refused-by, chose, passed_over, no_deeper
 use Rattle.text.proofs.source.Source.+and_next_arrow_next_atom_chained_conjoined_conjunction_denied_disjoined_disjunction_enclosed_equated_equivalence_from_word_implication_or_next_same_next.Goals as goal
 use Rattle.text.proofs.source.Source.+and_next_arrow_next_atom_chained_conjoined_conjunction_denied_disjoined_disjunction_enclosed_equated_equivalence_from_word_implication_or_next_same_next.Goals.{conjoined-then-arrow-via-then-arrow, conjoined-then-arrow-via-else-arrow+then-front-ne97, disjoined-then-arrow-via-then-arrow, disjoined-then-arrow-via-else-arrow+then-front-ne111, equated-then-arrow-via-then-arrow, equated-then-arrow-via-else-arrow+then-front-ne60, chained-else-not-arrow-via-then-not-arrow+else-front-ne45, chained-else-not-arrow-via-else-not-arrow}
 
-pub and-next-returns-in-err-keyword : goal.and-next-returns-in-err-keyword
+pub and_next-returns-in_err-keyword : goal.and_next-returns-in_err-keyword
 unfolding row_next
-and-next-returns-in-err-keyword m c xs p begins held =
-    refused-by _ _ c.from-residual.result _ _ (stops _ _ _ _ _ c.in-err-keyword.ensures) c.from-residual.ensures.1
+and_next-returns-in_err-keyword m c xs p begins held =
+    refused-by _ _ c.from_residual.result _ _ (stops _ _ _ _ _ c.in_err-keyword.ensures) c.from_residual.ensures.1
 
-pub and-next-returns-in-err-piece : goal.and-next-returns-in-err-piece
+pub and_next-returns-in_err-piece : goal.and_next-returns-in_err-piece
 unfolding row_next atom run
-and-next-returns-in-err-piece m c xs p begins held =
-    refused-by _ _ c.from-residual-in-err-piece.result _ _ (goes_on _ _ _ _ _ _ c.in-ok-keyword.ensures ∙ stops (atom c.args.self.now.names.now (nest c.args.self.now.names.now c.args.depth)) _ _ _ _ (c.in-err-piece.ensures (xs ++ formula_words p.formula) held)) c.from-residual-in-err-piece.ensures.1
+and_next-returns-in_err-piece m c xs p begins held =
+    refused-by _ _ c.from_residual-in_err-piece.result _ _ (goes_on _ _ _ _ _ _ c.in_ok-keyword.ensures ∙ stops (atom c.args.self.now.names.now (nest c.args.self.now.names.now c.args.depth)) _ _ _ _ (c.in_err-piece.ensures (xs ++ formula_words p.formula) held)) c.from_residual-in_err-piece.ensures.1
 
-pub and-next-returns-in-err-arrow : goal.and-next-returns-in-err-arrow
+pub and_next-returns-in_err-arrow : goal.and_next-returns-in_err-arrow
 unfolding row_next atom run
-and-next-returns-in-err-arrow m c xs p begins held =
-    let a = c.in-ok-piece.ensures (xs ++ formula_words p.formula) held in
-    refused-by _ _ c.from-residual-in-err-arrow.result _ _ (goes_on _ _ _ _ _ _ c.in-ok-keyword.ensures ∙ goes_on (atom c.args.self.now.names.now (nest c.args.self.now.names.now c.args.depth)) _ _ _ _ _ a.1 ∙ stops _ _ _ _ _ (no-claim c.atom.new.sheet (xs ++ formula_words p.formula) a.0 c.in-ok-piece.piece _ c.args.self.now.text.now c.atom.new.at a.2 (sym c.in-err-arrow.ensures))) c.from-residual-in-err-arrow.ensures.1
+and_next-returns-in_err-arrow m c xs p begins held =
+    let a = c.in_ok-piece.ensures (xs ++ formula_words p.formula) held in
+    refused-by _ _ c.from_residual-in_err-arrow.result _ _ (goes_on _ _ _ _ _ _ c.in_ok-keyword.ensures ∙ goes_on (atom c.args.self.now.names.now (nest c.args.self.now.names.now c.args.depth)) _ _ _ _ _ a.1 ∙ stops _ _ _ _ _ (no-claim c.atom.new.sheet (xs ++ formula_words p.formula) a.0 c.in_ok-piece.piece _ c.args.self.now.text.now c.atom.new.at a.2 (sym c.in_err-arrow.ensures))) c.from_residual-in_err-arrow.ensures.1
 
-pub and-next-returns : goal.and-next-returns
+pub and_next-returns : goal.and_next-returns
 unfolding row_next run atom formula_words
-and-next-returns m c xs p begins held =
-    let a = c.in-ok-piece.ensures (xs ++ formula_words p.formula) held in
-    let q = claims c.atom.new.sheet (xs ++ formula_words p.formula) a.0 c.in-ok-piece.piece c.in-ok-arrow.arrow c.args.self.now.text.now c.atom.new.at a.2 (sym c.in-ok-arrow.ensures) in (
+and_next-returns m c xs p begins held =
+    let a = c.in_ok-piece.ensures (xs ++ formula_words p.formula) held in
+    let q = claims c.atom.new.sheet (xs ++ formula_words p.formula) a.0 c.in_ok-piece.piece c.in_ok-arrow.arrow c.args.self.now.text.now c.atom.new.at a.2 (sym c.in_ok-arrow.ensures) in (
       joined And p q.0,
-      goes_on _ _ _ _ _ _ c.in-ok-keyword.ensures ∙ goes_on (atom c.args.self.now.names.now (nest c.args.self.now.names.now c.args.depth)) _ _ _ _ _ a.1 ∙ goes_on _ _ _ _ _ _ q.1,
+      goes_on _ _ _ _ _ _ c.in_ok-keyword.ensures ∙ goes_on (atom c.args.self.now.names.now (nest c.args.self.now.names.now c.args.depth)) _ _ _ _ _ a.1 ∙ goes_on _ _ _ _ _ _ q.1,
       (
         q.2.0,
         c.insert.ensures xs (formula_words p.formula ++ formula_words q.0.formula) begins (regrouped c.atom.new.sheet xs (formula_words p.formula) (formula_words q.0.formula) q.2.1),
@@ -58,75 +58,75 @@ conjoined-returns-then-arrow m c xs p begins arrow held =
     ] in
     (i.0, i.1 ∙ while-ended (goes_on 97) (row_next (keyword (codes "and")) And (atom c.args.self.now.names.now (nest c.args.self.now.names.now c.args.depth))) _ i.0 c.args.self.now.text.now c.loop-turn.at ended, (i.2, i.3))
 
-pub conjoined-returns-in-err-arrow : goal.conjoined-returns-in-err-arrow
+pub conjoined-returns-in_err-arrow : goal.conjoined-returns-in_err-arrow
 unfolding row_for
-conjoined-returns-in-err-arrow m c xs p begins arrow held =
+conjoined-returns-in_err-arrow m c xs p begins arrow held =
     let i = c.loop-turn.invariant xs p begins arrow held in
-    refused-by _ _ c.from-residual.result _ _ (i.1 ∙ while-stops (goes_on 97) (row_next (keyword (codes "and")) And (atom c.args.self.now.names.now (nest c.args.self.now.names.now c.args.depth))) 65536 c.loop-turn.-turn i.0 c.args.self.now.text.now c.loop-turn.at _ c.loop-turn-test.true (and_from _ _ (ap not (i.2 ∙ c.if-arrow.false)) (eq-eqb _ 97 (sym c.front.ensures ∙ c.if-front-ne97.false))) (c.in-err-arrow.ensures xs i.0 begins i.3)) c.from-residual.ensures.1
+    refused-by _ _ c.from_residual.result _ _ (i.1 ∙ while-stops (goes_on 97) (row_next (keyword (codes "and")) And (atom c.args.self.now.names.now (nest c.args.self.now.names.now c.args.depth))) 65536 c.loop-turn._turn i.0 c.args.self.now.text.now c.loop-turn.at _ c.loop-turn-test.true (and_from _ _ (ap not (i.2 ∙ c.if-arrow.false)) (eq-eqb _ 97 (sym c.front.ensures ∙ c.if-front-ne97.false))) (c.in_err-arrow.ensures xs i.0 begins i.3)) c.from_residual.ensures.1
 
 pub conjoined-loop-turn-preserved : goal.conjoined-loop-turn-preserved
 unfolding row_for
 conjoined-loop-turn-preserved m c xs p begins arrow held =
     let i = c.loop-turn.invariant xs p begins arrow held in
-    let n = c.in-ok-arrow.ensures xs i.0 begins i.3 in
-    (n.0, i.1 ∙ while-goes (goes_on 97) (row_next (keyword (codes "and")) And (atom c.args.self.now.names.now (nest c.args.self.now.names.now c.args.depth))) 65536 c.loop-turn.-turn i.0 c.args.self.now.text.now c.loop-turn.at n.0 _ c.loop-turn-test.true (and_from _ _ (ap not (i.2 ∙ c.if-arrow.false)) (eq-eqb _ 97 (sym c.front.ensures ∙ c.if-front-ne97.false))) n.1, n.2.0, n.2.1)
+    let n = c.in_ok-arrow.ensures xs i.0 begins i.3 in
+    (n.0, i.1 ∙ while-goes (goes_on 97) (row_next (keyword (codes "and")) And (atom c.args.self.now.names.now (nest c.args.self.now.names.now c.args.depth))) 65536 c.loop-turn._turn i.0 c.args.self.now.text.now c.loop-turn.at n.0 _ c.loop-turn-test.true (and_from _ _ (ap not (i.2 ∙ c.if-arrow.false)) (eq-eqb _ 97 (sym c.front.ensures ∙ c.if-front-ne97.false))) n.1, n.2.0, n.2.1)
 
 pub conjoined-returns : goal.conjoined-returns
 unfolding row_for
 conjoined-returns m c xs p begins arrow held =
     let i = c.loop-turn.invariant xs p begins arrow held in
-    (i.0, i.1 ∙ while-over (goes_on 97) (row_next (keyword (codes "and")) And (atom c.args.self.now.names.now (nest c.args.self.now.names.now c.args.depth))) 65536 c.loop-turn.-turn i.0 c.args.self.now.text.now c.loop-turn.at c.loop-turn-test.false, (i.2, i.3))
+    (i.0, i.1 ∙ while-over (goes_on 97) (row_next (keyword (codes "and")) And (atom c.args.self.now.names.now (nest c.args.self.now.names.now c.args.depth))) 65536 c.loop-turn._turn i.0 c.args.self.now.text.now c.loop-turn.at c.loop-turn-test.false, (i.2, i.3))
 
-pub conjunction-returns-in-err-atom : goal.conjunction-returns-in-err-atom
+pub conjunction-returns-in_err-atom : goal.conjunction-returns-in_err-atom
 unfolding conjunction in_row on_claim run atom
-conjunction-returns-in-err-atom m c xs held =
-    refused-by _ _ c.from-residual.result _ _ (stops (atom c.args.self.now.names.now (nest c.args.self.now.names.now c.args.depth)) _ _ _ _ (c.in-err-atom.ensures xs held)) c.from-residual.ensures.1
+conjunction-returns-in_err-atom m c xs held =
+    refused-by _ _ c.from_residual.result _ _ (stops (atom c.args.self.now.names.now (nest c.args.self.now.names.now c.args.depth)) _ _ _ _ (c.in_err-atom.ensures xs held)) c.from_residual.ensures.1
 
-pub conjunction-returns-in-err-arrow : goal.conjunction-returns-in-err-arrow
+pub conjunction-returns-in_err-arrow : goal.conjunction-returns-in_err-arrow
 unfolding conjunction in_row on_claim run atom
-conjunction-returns-in-err-arrow m c xs held =
-    let a = c.in-ok-atom.ensures xs held in
-    let q = claim-stands c.atom.new.sheet xs a.0 c.in-ok-atom.field-0 c.in-Claim.arrow a.2 c.in-Claim.is in
-    refused-by _ _ c.from-residual-in-err-arrow.result _ _ (goes_on (atom c.args.self.now.names.now (nest c.args.self.now.names.now c.args.depth)) _ _ _ _ _ (a.1 ∙ ap (λ z. Read z c.atom.new.at) q.1) ∙ stops _ _ _ _ _ (c.in-err-arrow.ensures xs q.0 held.counted q.2.0 q.2.1)) c.from-residual-in-err-arrow.ensures.1
+conjunction-returns-in_err-arrow m c xs held =
+    let a = c.in_ok-atom.ensures xs held in
+    let q = claim-stands c.atom.new.sheet xs a.0 c.in_ok-atom.field-0 c.in-Claim.arrow a.2 c.in-Claim.is in
+    refused-by _ _ c.from_residual-in_err-arrow.result _ _ (goes_on (atom c.args.self.now.names.now (nest c.args.self.now.names.now c.args.depth)) _ _ _ _ _ (a.1 ∙ ap (λ z. Read z c.atom.new.at) q.1) ∙ stops _ _ _ _ _ (c.in_err-arrow.ensures xs q.0 held.counted q.2.0 q.2.1)) c.from_residual-in_err-arrow.ensures.1
 
 pub conjunction-returns-in-Term : goal.conjunction-returns-in-Term
 unfolding conjunction in_row on_claim run atom
 conjunction-returns-in-Term m c xs held =
-    let a = c.in-ok-atom.ensures xs held in
-    let q = term-stands c.atom.new.sheet xs a.0 c.in-ok-atom.field-0 a.2 c.in-Term.is in
+    let a = c.in_ok-atom.ensures xs held in
+    let q = term-stands c.atom.new.sheet xs a.0 c.in_ok-atom.field-0 a.2 c.in-Term.is in
     (OfTerm q.0, goes_on (atom c.args.self.now.names.now (nest c.args.self.now.names.now c.args.depth)) _ _ _ _ _ (a.1 ∙ ap (λ z. Read z c.atom.new.at) q.1), q.2)
 
-pub conjunction-returns-in-ok-arrow : goal.conjunction-returns-in-ok-arrow
+pub conjunction-returns-in_ok-arrow : goal.conjunction-returns-in_ok-arrow
 unfolding conjunction in_row on_claim run atom
-conjunction-returns-in-ok-arrow m c xs held =
-    let a = c.in-ok-atom.ensures xs held in
-    let q = claim-stands c.atom.new.sheet xs a.0 c.in-ok-atom.field-0 c.in-Claim.arrow a.2 c.in-Claim.is in
-    let n = c.in-ok-arrow.ensures xs q.0 held.counted q.2.0 q.2.1 in
+conjunction-returns-in_ok-arrow m c xs held =
+    let a = c.in_ok-atom.ensures xs held in
+    let q = claim-stands c.atom.new.sheet xs a.0 c.in_ok-atom.field-0 c.in-Claim.arrow a.2 c.in-Claim.is in
+    let n = c.in_ok-arrow.ensures xs q.0 held.counted q.2.0 q.2.1 in
     (OfClaim n.0, goes_on (atom c.args.self.now.names.now (nest c.args.self.now.names.now c.args.depth)) _ _ _ _ _ (a.1 ∙ ap (λ z. Read z c.atom.new.at) q.1) ∙ goes_on _ _ _ _ _ _ n.1, n.2)
 
-pub or-next-returns-in-err-keyword : goal.or-next-returns-in-err-keyword
+pub or_next-returns-in_err-keyword : goal.or_next-returns-in_err-keyword
 unfolding row_next
-or-next-returns-in-err-keyword m c xs p begins held =
-    refused-by _ _ c.from-residual.result _ _ (stops _ _ _ _ _ c.in-err-keyword.ensures) c.from-residual.ensures.1
+or_next-returns-in_err-keyword m c xs p begins held =
+    refused-by _ _ c.from_residual.result _ _ (stops _ _ _ _ _ c.in_err-keyword.ensures) c.from_residual.ensures.1
 
-pub or-next-returns-in-err-piece : goal.or-next-returns-in-err-piece
+pub or_next-returns-in_err-piece : goal.or_next-returns-in_err-piece
 unfolding row_next
-or-next-returns-in-err-piece m c xs p begins held =
-    refused-by _ _ c.from-residual-in-err-piece.result _ _ (goes_on _ _ _ _ _ _ c.in-ok-keyword.ensures ∙ stops (conjunction c.args.self.now.names.now (nest c.args.self.now.names.now c.args.depth)) _ _ _ _ (c.in-err-piece.ensures (xs ++ formula_words p.formula) held)) c.from-residual-in-err-piece.ensures.1
+or_next-returns-in_err-piece m c xs p begins held =
+    refused-by _ _ c.from_residual-in_err-piece.result _ _ (goes_on _ _ _ _ _ _ c.in_ok-keyword.ensures ∙ stops (conjunction c.args.self.now.names.now (nest c.args.self.now.names.now c.args.depth)) _ _ _ _ (c.in_err-piece.ensures (xs ++ formula_words p.formula) held)) c.from_residual-in_err-piece.ensures.1
 
-pub or-next-returns-in-err-arrow : goal.or-next-returns-in-err-arrow
+pub or_next-returns-in_err-arrow : goal.or_next-returns-in_err-arrow
 unfolding row_next
-or-next-returns-in-err-arrow m c xs p begins held =
-    let a = c.in-ok-piece.ensures (xs ++ formula_words p.formula) held in
-    refused-by _ _ c.from-residual-in-err-arrow.result _ _ (goes_on _ _ _ _ _ _ c.in-ok-keyword.ensures ∙ goes_on (conjunction c.args.self.now.names.now (nest c.args.self.now.names.now c.args.depth)) _ _ _ _ _ a.1 ∙ stops _ _ _ _ _ (no-claim c.conjunction.new.sheet (xs ++ formula_words p.formula) a.0 c.in-ok-piece.piece _ c.args.self.now.text.now c.conjunction.new.at a.2 (sym c.in-err-arrow.ensures))) c.from-residual-in-err-arrow.ensures.1
+or_next-returns-in_err-arrow m c xs p begins held =
+    let a = c.in_ok-piece.ensures (xs ++ formula_words p.formula) held in
+    refused-by _ _ c.from_residual-in_err-arrow.result _ _ (goes_on _ _ _ _ _ _ c.in_ok-keyword.ensures ∙ goes_on (conjunction c.args.self.now.names.now (nest c.args.self.now.names.now c.args.depth)) _ _ _ _ _ a.1 ∙ stops _ _ _ _ _ (no-claim c.conjunction.new.sheet (xs ++ formula_words p.formula) a.0 c.in_ok-piece.piece _ c.args.self.now.text.now c.conjunction.new.at a.2 (sym c.in_err-arrow.ensures))) c.from_residual-in_err-arrow.ensures.1
 
-pub or-next-returns : goal.or-next-returns
+pub or_next-returns : goal.or_next-returns
 unfolding row_next run formula_words
-or-next-returns m c xs p begins held =
-    let a = c.in-ok-piece.ensures (xs ++ formula_words p.formula) held in
-    let q = claims c.conjunction.new.sheet (xs ++ formula_words p.formula) a.0 c.in-ok-piece.piece c.in-ok-arrow.arrow c.args.self.now.text.now c.conjunction.new.at a.2 (sym c.in-ok-arrow.ensures) in (
+or_next-returns m c xs p begins held =
+    let a = c.in_ok-piece.ensures (xs ++ formula_words p.formula) held in
+    let q = claims c.conjunction.new.sheet (xs ++ formula_words p.formula) a.0 c.in_ok-piece.piece c.in_ok-arrow.arrow c.args.self.now.text.now c.conjunction.new.at a.2 (sym c.in_ok-arrow.ensures) in (
       joined Or p q.0,
-      goes_on _ _ _ _ _ _ c.in-ok-keyword.ensures ∙ goes_on (conjunction c.args.self.now.names.now (nest c.args.self.now.names.now c.args.depth)) _ _ _ _ _ a.1 ∙ goes_on _ _ _ _ _ _ q.1,
+      goes_on _ _ _ _ _ _ c.in_ok-keyword.ensures ∙ goes_on (conjunction c.args.self.now.names.now (nest c.args.self.now.names.now c.args.depth)) _ _ _ _ _ a.1 ∙ goes_on _ _ _ _ _ _ q.1,
       (
         q.2.0,
         c.insert.ensures xs (formula_words p.formula ++ formula_words q.0.formula) begins (regrouped c.conjunction.new.sheet xs (formula_words p.formula) (formula_words q.0.formula) q.2.1),
@@ -144,75 +144,75 @@ disjoined-returns-then-arrow m c xs p begins arrow held =
     ] in
     (i.0, i.1 ∙ while-ended (goes_on 111) (row_next (keyword (codes "or")) Or (conjunction c.args.self.now.names.now (nest c.args.self.now.names.now c.args.depth))) _ i.0 c.args.self.now.text.now c.loop-turn.at ended, (i.2, i.3))
 
-pub disjoined-returns-in-err-arrow : goal.disjoined-returns-in-err-arrow
+pub disjoined-returns-in_err-arrow : goal.disjoined-returns-in_err-arrow
 unfolding row_for
-disjoined-returns-in-err-arrow m c xs p begins arrow held =
+disjoined-returns-in_err-arrow m c xs p begins arrow held =
     let i = c.loop-turn.invariant xs p begins arrow held in
-    refused-by _ _ c.from-residual.result _ _ (i.1 ∙ while-stops (goes_on 111) (row_next (keyword (codes "or")) Or (conjunction c.args.self.now.names.now (nest c.args.self.now.names.now c.args.depth))) 65536 c.loop-turn.-turn i.0 c.args.self.now.text.now c.loop-turn.at _ c.loop-turn-test.true (and_from _ _ (ap not (i.2 ∙ c.if-arrow.false)) (eq-eqb _ 111 (sym c.front.ensures ∙ c.if-front-ne111.false))) (c.in-err-arrow.ensures xs i.0 begins i.3)) c.from-residual.ensures.1
+    refused-by _ _ c.from_residual.result _ _ (i.1 ∙ while-stops (goes_on 111) (row_next (keyword (codes "or")) Or (conjunction c.args.self.now.names.now (nest c.args.self.now.names.now c.args.depth))) 65536 c.loop-turn._turn i.0 c.args.self.now.text.now c.loop-turn.at _ c.loop-turn-test.true (and_from _ _ (ap not (i.2 ∙ c.if-arrow.false)) (eq-eqb _ 111 (sym c.front.ensures ∙ c.if-front-ne111.false))) (c.in_err-arrow.ensures xs i.0 begins i.3)) c.from_residual.ensures.1
 
 pub disjoined-loop-turn-preserved : goal.disjoined-loop-turn-preserved
 unfolding row_for
 disjoined-loop-turn-preserved m c xs p begins arrow held =
     let i = c.loop-turn.invariant xs p begins arrow held in
-    let n = c.in-ok-arrow.ensures xs i.0 begins i.3 in
-    (n.0, i.1 ∙ while-goes (goes_on 111) (row_next (keyword (codes "or")) Or (conjunction c.args.self.now.names.now (nest c.args.self.now.names.now c.args.depth))) 65536 c.loop-turn.-turn i.0 c.args.self.now.text.now c.loop-turn.at n.0 _ c.loop-turn-test.true (and_from _ _ (ap not (i.2 ∙ c.if-arrow.false)) (eq-eqb _ 111 (sym c.front.ensures ∙ c.if-front-ne111.false))) n.1, n.2.0, n.2.1)
+    let n = c.in_ok-arrow.ensures xs i.0 begins i.3 in
+    (n.0, i.1 ∙ while-goes (goes_on 111) (row_next (keyword (codes "or")) Or (conjunction c.args.self.now.names.now (nest c.args.self.now.names.now c.args.depth))) 65536 c.loop-turn._turn i.0 c.args.self.now.text.now c.loop-turn.at n.0 _ c.loop-turn-test.true (and_from _ _ (ap not (i.2 ∙ c.if-arrow.false)) (eq-eqb _ 111 (sym c.front.ensures ∙ c.if-front-ne111.false))) n.1, n.2.0, n.2.1)
 
 pub disjoined-returns : goal.disjoined-returns
 unfolding row_for
 disjoined-returns m c xs p begins arrow held =
     let i = c.loop-turn.invariant xs p begins arrow held in
-    (i.0, i.1 ∙ while-over (goes_on 111) (row_next (keyword (codes "or")) Or (conjunction c.args.self.now.names.now (nest c.args.self.now.names.now c.args.depth))) 65536 c.loop-turn.-turn i.0 c.args.self.now.text.now c.loop-turn.at c.loop-turn-test.false, (i.2, i.3))
+    (i.0, i.1 ∙ while-over (goes_on 111) (row_next (keyword (codes "or")) Or (conjunction c.args.self.now.names.now (nest c.args.self.now.names.now c.args.depth))) 65536 c.loop-turn._turn i.0 c.args.self.now.text.now c.loop-turn.at c.loop-turn-test.false, (i.2, i.3))
 
-pub disjunction-returns-in-err-conjunction : goal.disjunction-returns-in-err-conjunction
+pub disjunction-returns-in_err-conjunction : goal.disjunction-returns-in_err-conjunction
 unfolding disjunction in_row on_claim run
-disjunction-returns-in-err-conjunction m c xs held =
-    refused-by _ _ c.from-residual.result _ _ (stops (conjunction c.args.self.now.names.now (nest c.args.self.now.names.now c.args.depth)) _ _ _ _ (c.in-err-conjunction.ensures xs held)) c.from-residual.ensures.1
+disjunction-returns-in_err-conjunction m c xs held =
+    refused-by _ _ c.from_residual.result _ _ (stops (conjunction c.args.self.now.names.now (nest c.args.self.now.names.now c.args.depth)) _ _ _ _ (c.in_err-conjunction.ensures xs held)) c.from_residual.ensures.1
 
-pub disjunction-returns-in-err-arrow : goal.disjunction-returns-in-err-arrow
+pub disjunction-returns-in_err-arrow : goal.disjunction-returns-in_err-arrow
 unfolding disjunction in_row on_claim run
-disjunction-returns-in-err-arrow m c xs held =
-    let a = c.in-ok-conjunction.ensures xs held in
-    let q = claim-stands c.conjunction.new.sheet xs a.0 c.in-ok-conjunction.field-0 c.in-Claim.arrow a.2 c.in-Claim.is in
-    refused-by _ _ c.from-residual-in-err-arrow.result _ _ (goes_on (conjunction c.args.self.now.names.now (nest c.args.self.now.names.now c.args.depth)) _ _ _ _ _ (a.1 ∙ ap (λ z. Read z c.conjunction.new.at) q.1) ∙ stops _ _ _ _ _ (c.in-err-arrow.ensures xs q.0 held.counted q.2.0 q.2.1)) c.from-residual-in-err-arrow.ensures.1
+disjunction-returns-in_err-arrow m c xs held =
+    let a = c.in_ok-conjunction.ensures xs held in
+    let q = claim-stands c.conjunction.new.sheet xs a.0 c.in_ok-conjunction.field-0 c.in-Claim.arrow a.2 c.in-Claim.is in
+    refused-by _ _ c.from_residual-in_err-arrow.result _ _ (goes_on (conjunction c.args.self.now.names.now (nest c.args.self.now.names.now c.args.depth)) _ _ _ _ _ (a.1 ∙ ap (λ z. Read z c.conjunction.new.at) q.1) ∙ stops _ _ _ _ _ (c.in_err-arrow.ensures xs q.0 held.counted q.2.0 q.2.1)) c.from_residual-in_err-arrow.ensures.1
 
 pub disjunction-returns-in-Term : goal.disjunction-returns-in-Term
 unfolding disjunction in_row on_claim run
 disjunction-returns-in-Term m c xs held =
-    let a = c.in-ok-conjunction.ensures xs held in
-    let q = term-stands c.conjunction.new.sheet xs a.0 c.in-ok-conjunction.field-0 a.2 c.in-Term.is in
+    let a = c.in_ok-conjunction.ensures xs held in
+    let q = term-stands c.conjunction.new.sheet xs a.0 c.in_ok-conjunction.field-0 a.2 c.in-Term.is in
     (OfTerm q.0, goes_on (conjunction c.args.self.now.names.now (nest c.args.self.now.names.now c.args.depth)) _ _ _ _ _ (a.1 ∙ ap (λ z. Read z c.conjunction.new.at) q.1), q.2)
 
-pub disjunction-returns-in-ok-arrow : goal.disjunction-returns-in-ok-arrow
+pub disjunction-returns-in_ok-arrow : goal.disjunction-returns-in_ok-arrow
 unfolding disjunction in_row on_claim run
-disjunction-returns-in-ok-arrow m c xs held =
-    let a = c.in-ok-conjunction.ensures xs held in
-    let q = claim-stands c.conjunction.new.sheet xs a.0 c.in-ok-conjunction.field-0 c.in-Claim.arrow a.2 c.in-Claim.is in
-    let n = c.in-ok-arrow.ensures xs q.0 held.counted q.2.0 q.2.1 in
+disjunction-returns-in_ok-arrow m c xs held =
+    let a = c.in_ok-conjunction.ensures xs held in
+    let q = claim-stands c.conjunction.new.sheet xs a.0 c.in_ok-conjunction.field-0 c.in-Claim.arrow a.2 c.in-Claim.is in
+    let n = c.in_ok-arrow.ensures xs q.0 held.counted q.2.0 q.2.1 in
     (OfClaim n.0, goes_on (conjunction c.args.self.now.names.now (nest c.args.self.now.names.now c.args.depth)) _ _ _ _ _ (a.1 ∙ ap (λ z. Read z c.conjunction.new.at) q.1) ∙ goes_on _ _ _ _ _ _ n.1, n.2)
 
-pub same-next-returns-in-err-sign : goal.same-next-returns-in-err-sign
+pub same_next-returns-in_err-sign : goal.same_next-returns-in_err-sign
 unfolding row_next
-same-next-returns-in-err-sign m c xs p begins held =
-    refused-by _ _ c.from-residual.result _ _ (stops _ _ _ _ _ c.in-err-sign.ensures) c.from-residual.ensures.1
+same_next-returns-in_err-sign m c xs p begins held =
+    refused-by _ _ c.from_residual.result _ _ (stops _ _ _ _ _ c.in_err-sign.ensures) c.from_residual.ensures.1
 
-pub same-next-returns-in-err-piece : goal.same-next-returns-in-err-piece
+pub same_next-returns-in_err-piece : goal.same_next-returns-in_err-piece
 unfolding row_next
-same-next-returns-in-err-piece m c xs p begins held =
-    refused-by _ _ c.from-residual-in-err-piece.result _ _ (goes_on _ _ _ _ _ _ c.in-ok-sign.ensures ∙ stops (implication c.args.self.now.names.now (nest c.args.self.now.names.now c.args.depth)) _ _ _ _ (c.in-err-piece.ensures (xs ++ formula_words p.formula) held)) c.from-residual-in-err-piece.ensures.1
+same_next-returns-in_err-piece m c xs p begins held =
+    refused-by _ _ c.from_residual-in_err-piece.result _ _ (goes_on _ _ _ _ _ _ c.in_ok-sign.ensures ∙ stops (implication c.args.self.now.names.now (nest c.args.self.now.names.now c.args.depth)) _ _ _ _ (c.in_err-piece.ensures (xs ++ formula_words p.formula) held)) c.from_residual-in_err-piece.ensures.1
 
-pub same-next-returns-in-err-arrow : goal.same-next-returns-in-err-arrow
+pub same_next-returns-in_err-arrow : goal.same_next-returns-in_err-arrow
 unfolding row_next
-same-next-returns-in-err-arrow m c xs p begins held =
-    let a = c.in-ok-piece.ensures (xs ++ formula_words p.formula) held in
-    refused-by _ _ c.from-residual-in-err-arrow.result _ _ (goes_on _ _ _ _ _ _ c.in-ok-sign.ensures ∙ goes_on (implication c.args.self.now.names.now (nest c.args.self.now.names.now c.args.depth)) _ _ _ _ _ a.1 ∙ stops _ _ _ _ _ (no-claim c.implication.new.sheet (xs ++ formula_words p.formula) a.0 c.in-ok-piece.piece _ c.args.self.now.text.now c.implication.new.at a.2 (sym c.in-err-arrow.ensures))) c.from-residual-in-err-arrow.ensures.1
+same_next-returns-in_err-arrow m c xs p begins held =
+    let a = c.in_ok-piece.ensures (xs ++ formula_words p.formula) held in
+    refused-by _ _ c.from_residual-in_err-arrow.result _ _ (goes_on _ _ _ _ _ _ c.in_ok-sign.ensures ∙ goes_on (implication c.args.self.now.names.now (nest c.args.self.now.names.now c.args.depth)) _ _ _ _ _ a.1 ∙ stops _ _ _ _ _ (no-claim c.implication.new.sheet (xs ++ formula_words p.formula) a.0 c.in_ok-piece.piece _ c.args.self.now.text.now c.implication.new.at a.2 (sym c.in_err-arrow.ensures))) c.from_residual-in_err-arrow.ensures.1
 
-pub same-next-returns : goal.same-next-returns
+pub same_next-returns : goal.same_next-returns
 unfolding row_next run
-same-next-returns m c xs p begins held =
-    let a = c.in-ok-piece.ensures (xs ++ formula_words p.formula) held in
-    let q = claims c.implication.new.sheet (xs ++ formula_words p.formula) a.0 c.in-ok-piece.piece c.in-ok-arrow.arrow c.args.self.now.text.now c.implication.new.at a.2 (sym c.in-ok-arrow.ensures) in (
+same_next-returns m c xs p begins held =
+    let a = c.in_ok-piece.ensures (xs ++ formula_words p.formula) held in
+    let q = claims c.implication.new.sheet (xs ++ formula_words p.formula) a.0 c.in_ok-piece.piece c.in_ok-arrow.arrow c.args.self.now.text.now c.implication.new.at a.2 (sym c.in_ok-arrow.ensures) in (
       joined equivalent p q.0,
-      goes_on _ _ _ _ _ _ c.in-ok-sign.ensures ∙ goes_on (implication c.args.self.now.names.now (nest c.args.self.now.names.now c.args.depth)) _ _ _ _ _ a.1 ∙ goes_on _ _ _ _ _ _ q.1,
+      goes_on _ _ _ _ _ _ c.in_ok-sign.ensures ∙ goes_on (implication c.args.self.now.names.now (nest c.args.self.now.names.now c.args.depth)) _ _ _ _ _ a.1 ∙ goes_on _ _ _ _ _ _ q.1,
       (
         q.2.0,
         c.equate.ensures xs p.formula q.0.formula begins held.counted (regrouped c.implication.new.sheet xs (formula_words p.formula) (formula_words q.0.formula) q.2.1),
@@ -230,101 +230,101 @@ equated-returns-then-arrow m c xs p begins arrow held =
     ] in
     (i.0, i.1 ∙ while-ended (goes_on 60) (row_next (sign (codes "<->")) equivalent (implication c.args.self.now.names.now (nest c.args.self.now.names.now c.args.depth))) _ i.0 c.args.self.now.text.now c.loop-turn.at ended, (i.2, i.3))
 
-pub equated-returns-in-err-arrow : goal.equated-returns-in-err-arrow
+pub equated-returns-in_err-arrow : goal.equated-returns-in_err-arrow
 unfolding row_for
-equated-returns-in-err-arrow m c xs p begins arrow held =
+equated-returns-in_err-arrow m c xs p begins arrow held =
     let i = c.loop-turn.invariant xs p begins arrow held in
-    refused-by _ _ c.from-residual.result _ _ (i.1 ∙ while-stops (goes_on 60) (row_next (sign (codes "<->")) equivalent (implication c.args.self.now.names.now (nest c.args.self.now.names.now c.args.depth))) 65536 c.loop-turn.-turn i.0 c.args.self.now.text.now c.loop-turn.at _ c.loop-turn-test.true (and_from _ _ (ap not (i.2 ∙ c.if-arrow.false)) (eq-eqb _ 60 (sym c.front.ensures ∙ c.if-front-ne60.false))) (c.in-err-arrow.ensures xs i.0 begins i.3)) c.from-residual.ensures.1
+    refused-by _ _ c.from_residual.result _ _ (i.1 ∙ while-stops (goes_on 60) (row_next (sign (codes "<->")) equivalent (implication c.args.self.now.names.now (nest c.args.self.now.names.now c.args.depth))) 65536 c.loop-turn._turn i.0 c.args.self.now.text.now c.loop-turn.at _ c.loop-turn-test.true (and_from _ _ (ap not (i.2 ∙ c.if-arrow.false)) (eq-eqb _ 60 (sym c.front.ensures ∙ c.if-front-ne60.false))) (c.in_err-arrow.ensures xs i.0 begins i.3)) c.from_residual.ensures.1
 
 pub equated-loop-turn-preserved : goal.equated-loop-turn-preserved
 unfolding row_for
 equated-loop-turn-preserved m c xs p begins arrow held =
     let i = c.loop-turn.invariant xs p begins arrow held in
-    let n = c.in-ok-arrow.ensures xs i.0 begins i.3 in
-    (n.0, i.1 ∙ while-goes (goes_on 60) (row_next (sign (codes "<->")) equivalent (implication c.args.self.now.names.now (nest c.args.self.now.names.now c.args.depth))) 65536 c.loop-turn.-turn i.0 c.args.self.now.text.now c.loop-turn.at n.0 _ c.loop-turn-test.true (and_from _ _ (ap not (i.2 ∙ c.if-arrow.false)) (eq-eqb _ 60 (sym c.front.ensures ∙ c.if-front-ne60.false))) n.1, n.2.0, n.2.1)
+    let n = c.in_ok-arrow.ensures xs i.0 begins i.3 in
+    (n.0, i.1 ∙ while-goes (goes_on 60) (row_next (sign (codes "<->")) equivalent (implication c.args.self.now.names.now (nest c.args.self.now.names.now c.args.depth))) 65536 c.loop-turn._turn i.0 c.args.self.now.text.now c.loop-turn.at n.0 _ c.loop-turn-test.true (and_from _ _ (ap not (i.2 ∙ c.if-arrow.false)) (eq-eqb _ 60 (sym c.front.ensures ∙ c.if-front-ne60.false))) n.1, n.2.0, n.2.1)
 
 pub equated-returns : goal.equated-returns
 unfolding row_for
 equated-returns m c xs p begins arrow held =
     let i = c.loop-turn.invariant xs p begins arrow held in
-    (i.0, i.1 ∙ while-over (goes_on 60) (row_next (sign (codes "<->")) equivalent (implication c.args.self.now.names.now (nest c.args.self.now.names.now c.args.depth))) 65536 c.loop-turn.-turn i.0 c.args.self.now.text.now c.loop-turn.at c.loop-turn-test.false, (i.2, i.3))
+    (i.0, i.1 ∙ while-over (goes_on 60) (row_next (sign (codes "<->")) equivalent (implication c.args.self.now.names.now (nest c.args.self.now.names.now c.args.depth))) 65536 c.loop-turn._turn i.0 c.args.self.now.text.now c.loop-turn.at c.loop-turn-test.false, (i.2, i.3))
 
-pub equivalence-returns-in-err-implication : goal.equivalence-returns-in-err-implication
+pub equivalence-returns-in_err-implication : goal.equivalence-returns-in_err-implication
 unfolding equivalence in_row on_claim run
-equivalence-returns-in-err-implication m c xs held =
-    refused-by _ _ c.from-residual.result _ _ (stops (implication c.args.self.now.names.now (nest c.args.self.now.names.now c.args.depth)) _ _ _ _ (c.in-err-implication.ensures xs held)) c.from-residual.ensures.1
+equivalence-returns-in_err-implication m c xs held =
+    refused-by _ _ c.from_residual.result _ _ (stops (implication c.args.self.now.names.now (nest c.args.self.now.names.now c.args.depth)) _ _ _ _ (c.in_err-implication.ensures xs held)) c.from_residual.ensures.1
 
-pub equivalence-returns-in-err-arrow : goal.equivalence-returns-in-err-arrow
+pub equivalence-returns-in_err-arrow : goal.equivalence-returns-in_err-arrow
 unfolding equivalence in_row on_claim run
-equivalence-returns-in-err-arrow m c xs held =
-    let a = c.in-ok-implication.ensures xs held in
-    let q = claim-stands c.implication.new.sheet xs a.0 c.in-ok-implication.field-0 c.in-Claim.arrow a.2 c.in-Claim.is in
-    refused-by _ _ c.from-residual-in-err-arrow.result _ _ (goes_on (implication c.args.self.now.names.now (nest c.args.self.now.names.now c.args.depth)) _ _ _ _ _ (a.1 ∙ ap (λ z. Read z c.implication.new.at) q.1) ∙ stops _ _ _ _ _ (c.in-err-arrow.ensures xs q.0 held.counted q.2.0 q.2.1)) c.from-residual-in-err-arrow.ensures.1
+equivalence-returns-in_err-arrow m c xs held =
+    let a = c.in_ok-implication.ensures xs held in
+    let q = claim-stands c.implication.new.sheet xs a.0 c.in_ok-implication.field-0 c.in-Claim.arrow a.2 c.in-Claim.is in
+    refused-by _ _ c.from_residual-in_err-arrow.result _ _ (goes_on (implication c.args.self.now.names.now (nest c.args.self.now.names.now c.args.depth)) _ _ _ _ _ (a.1 ∙ ap (λ z. Read z c.implication.new.at) q.1) ∙ stops _ _ _ _ _ (c.in_err-arrow.ensures xs q.0 held.counted q.2.0 q.2.1)) c.from_residual-in_err-arrow.ensures.1
 
 pub equivalence-returns-in-Term : goal.equivalence-returns-in-Term
 unfolding equivalence in_row on_claim run
 equivalence-returns-in-Term m c xs held =
-    let a = c.in-ok-implication.ensures xs held in
-    let q = term-stands c.implication.new.sheet xs a.0 c.in-ok-implication.field-0 a.2 c.in-Term.is in
+    let a = c.in_ok-implication.ensures xs held in
+    let q = term-stands c.implication.new.sheet xs a.0 c.in_ok-implication.field-0 a.2 c.in-Term.is in
     (OfTerm q.0, goes_on (implication c.args.self.now.names.now (nest c.args.self.now.names.now c.args.depth)) _ _ _ _ _ (a.1 ∙ ap (λ z. Read z c.implication.new.at) q.1), q.2)
 
-pub equivalence-returns-in-ok-arrow : goal.equivalence-returns-in-ok-arrow
+pub equivalence-returns-in_ok-arrow : goal.equivalence-returns-in_ok-arrow
 unfolding equivalence in_row on_claim run
-equivalence-returns-in-ok-arrow m c xs held =
-    let a = c.in-ok-implication.ensures xs held in
-    let q = claim-stands c.implication.new.sheet xs a.0 c.in-ok-implication.field-0 c.in-Claim.arrow a.2 c.in-Claim.is in
-    let n = c.in-ok-arrow.ensures xs q.0 held.counted q.2.0 q.2.1 in
+equivalence-returns-in_ok-arrow m c xs held =
+    let a = c.in_ok-implication.ensures xs held in
+    let q = claim-stands c.implication.new.sheet xs a.0 c.in_ok-implication.field-0 c.in-Claim.arrow a.2 c.in-Claim.is in
+    let n = c.in_ok-arrow.ensures xs q.0 held.counted q.2.0 q.2.1 in
     (OfClaim n.0, goes_on (implication c.args.self.now.names.now (nest c.args.self.now.names.now c.args.depth)) _ _ _ _ _ (a.1 ∙ ap (λ z. Read z c.implication.new.at) q.1) ∙ goes_on _ _ _ _ _ _ n.1, n.2)
 
-pub implication-returns-in-err-disjunction : goal.implication-returns-in-err-disjunction
+pub implication-returns-in_err-disjunction : goal.implication-returns-in_err-disjunction
 unfolding implication on_claim run
-implication-returns-in-err-disjunction m c xs held =
-    refused-by _ _ c.from-residual.result _ _ (stops (disjunction c.args.self.now.names.now (nest c.args.self.now.names.now c.args.depth)) _ _ _ _ (c.in-err-disjunction.ensures xs held)) c.from-residual.ensures.1
+implication-returns-in_err-disjunction m c xs held =
+    refused-by _ _ c.from_residual.result _ _ (stops (disjunction c.args.self.now.names.now (nest c.args.self.now.names.now c.args.depth)) _ _ _ _ (c.in_err-disjunction.ensures xs held)) c.from_residual.ensures.1
 
-pub implication-returns-in-err-chained : goal.implication-returns-in-err-chained
+pub implication-returns-in_err-chained : goal.implication-returns-in_err-chained
 unfolding implication on_claim run
-implication-returns-in-err-chained m c xs held =
-    let a = c.in-ok-disjunction.ensures xs held in
-    let q = claim-stands c.disjunction.new.sheet xs a.0 c.in-ok-disjunction.field-0 c.in-Claim.arrow a.2 c.in-Claim.is in
-    refused-by _ _ c.from-residual-in-err-chained.result _ _ (goes_on (disjunction c.args.self.now.names.now (nest c.args.self.now.names.now c.args.depth)) _ _ _ _ _ (a.1 ∙ ap (λ z. Read z c.disjunction.new.at) q.1) ∙ stops _ _ _ _ _ (c.in-err-chained.ensures xs q.0 held.counted q.2.0 q.2.1)) c.from-residual-in-err-chained.ensures.1
+implication-returns-in_err-chained m c xs held =
+    let a = c.in_ok-disjunction.ensures xs held in
+    let q = claim-stands c.disjunction.new.sheet xs a.0 c.in_ok-disjunction.field-0 c.in-Claim.arrow a.2 c.in-Claim.is in
+    refused-by _ _ c.from_residual-in_err-chained-in-Claim.result _ _ (goes_on (disjunction c.args.self.now.names.now (nest c.args.self.now.names.now c.args.depth)) _ _ _ _ _ (a.1 ∙ ap (λ z. Read z c.disjunction.new.at) q.1) ∙ stops _ _ _ _ _ (c.in_err-chained-in-Claim.ensures xs q.0 held.counted q.2.0 q.2.1)) c.from_residual-in_err-chained-in-Claim.ensures.1
 
 pub implication-returns-in-Term : goal.implication-returns-in-Term
 unfolding implication on_claim run
 implication-returns-in-Term m c xs held =
-    let a = c.in-ok-disjunction.ensures xs held in
-    let q = term-stands c.disjunction.new.sheet xs a.0 c.in-ok-disjunction.field-0 a.2 c.in-Term.is in
+    let a = c.in_ok-disjunction.ensures xs held in
+    let q = term-stands c.disjunction.new.sheet xs a.0 c.in_ok-disjunction.field-0 a.2 c.in-Term.is in
     (OfTerm q.0, goes_on (disjunction c.args.self.now.names.now (nest c.args.self.now.names.now c.args.depth)) _ _ _ _ _ (a.1 ∙ ap (λ z. Read z c.disjunction.new.at) q.1), q.2)
 
-pub implication-returns-in-ok-chained : goal.implication-returns-in-ok-chained
+pub implication-returns-in_ok-chained : goal.implication-returns-in_ok-chained
 unfolding implication on_claim run
-implication-returns-in-ok-chained m c xs held =
-    let a = c.in-ok-disjunction.ensures xs held in
-    let q = claim-stands c.disjunction.new.sheet xs a.0 c.in-ok-disjunction.field-0 c.in-Claim.arrow a.2 c.in-Claim.is in
-    let n = c.in-ok-chained.ensures xs q.0 held.counted q.2.0 q.2.1 in
+implication-returns-in_ok-chained m c xs held =
+    let a = c.in_ok-disjunction.ensures xs held in
+    let q = claim-stands c.disjunction.new.sheet xs a.0 c.in_ok-disjunction.field-0 c.in-Claim.arrow a.2 c.in-Claim.is in
+    let n = c.in_ok-chained-in-Claim.ensures xs q.0 held.counted q.2.0 q.2.1 in
     (OfClaim n.0, goes_on (disjunction c.args.self.now.names.now (nest c.args.self.now.names.now c.args.depth)) _ _ _ _ _ (a.1 ∙ ap (λ z. Read z c.disjunction.new.at) q.1) ∙ goes_on _ _ _ _ _ _ n.1, n.2)
 
-pub arrow-next-returns-in-err-arrow-behind : goal.arrow-next-returns-in-err-arrow-behind
+pub arrow_next-returns-in_err-arrow_behind : goal.arrow_next-returns-in_err-arrow_behind
 unfolding chain_next
-arrow-next-returns-in-err-arrow-behind m c xs s arrow held =
-    chain-refused s _ _ c.from-residual.result _ _ (stops _ _ _ _ _ (ap (λ b. run (arrow_behind b) c.args.self.now.text.now c.args.at.now) arrow ∙ c.in-err-arrow-behind.ensures)) c.from-residual.ensures.1
+arrow_next-returns-in_err-arrow_behind m c xs s arrow held =
+    chain-refused s _ _ c.from_residual.result _ _ (stops _ _ _ _ _ (ap (λ b. run (arrow_behind b) c.args.self.now.text.now c.args.at.now) arrow ∙ c.in_err-arrow_behind.ensures)) c.from_residual.ensures.1
 
-pub arrow-next-returns-in-err-piece : goal.arrow-next-returns-in-err-piece
+pub arrow_next-returns-in_err-piece : goal.arrow_next-returns-in_err-piece
 unfolding chain_next
-arrow-next-returns-in-err-piece m c xs s arrow held =
-    chain-refused s _ _ c.from-residual-in-err-piece.result _ _ (goes_on _ _ _ _ _ _ (ap (λ b. run (arrow_behind b) c.args.self.now.text.now c.args.at.now) arrow ∙ c.in-ok-arrow-behind.ensures) ∙ stops (disjunction c.args.self.now.names.now (nest c.args.self.now.names.now c.args.depth)) _ _ _ _ (c.in-err-piece.ensures xs held)) c.from-residual-in-err-piece.ensures.1
+arrow_next-returns-in_err-piece m c xs s arrow held =
+    chain-refused s _ _ c.from_residual-in_err-piece.result _ _ (goes_on _ _ _ _ _ _ (ap (λ b. run (arrow_behind b) c.args.self.now.text.now c.args.at.now) arrow ∙ c.in_ok-arrow_behind.ensures) ∙ stops (disjunction c.args.self.now.names.now (nest c.args.self.now.names.now c.args.depth)) _ _ _ _ (c.in_err-piece.ensures xs held)) c.from_residual-in_err-piece.ensures.1
 
-pub arrow-next-returns-in-err-arrow : goal.arrow-next-returns-in-err-arrow
+pub arrow_next-returns-in_err-arrow : goal.arrow_next-returns-in_err-arrow
 unfolding chain_next
-arrow-next-returns-in-err-arrow m c xs s arrow held =
-    let a = c.in-ok-piece.ensures xs held in
-    chain-refused s _ _ c.from-residual-in-err-arrow.result _ _ (goes_on _ _ _ _ _ _ (ap (λ b. run (arrow_behind b) c.args.self.now.text.now c.args.at.now) arrow ∙ c.in-ok-arrow-behind.ensures) ∙ goes_on (disjunction c.args.self.now.names.now (nest c.args.self.now.names.now c.args.depth)) _ _ _ _ _ a.1 ∙ stops _ _ _ _ _ (no-claim c.disjunction.new.sheet xs a.0 c.in-ok-piece.piece _ c.args.self.now.text.now c.disjunction.new.at a.2 (sym c.in-err-arrow.ensures))) c.from-residual-in-err-arrow.ensures.1
+arrow_next-returns-in_err-arrow m c xs s arrow held =
+    let a = c.in_ok-piece.ensures xs held in
+    chain-refused s _ _ c.from_residual-in_err-arrow.result _ _ (goes_on _ _ _ _ _ _ (ap (λ b. run (arrow_behind b) c.args.self.now.text.now c.args.at.now) arrow ∙ c.in_ok-arrow_behind.ensures) ∙ goes_on (disjunction c.args.self.now.names.now (nest c.args.self.now.names.now c.args.depth)) _ _ _ _ _ a.1 ∙ stops _ _ _ _ _ (no-claim c.disjunction.new.sheet xs a.0 c.in_ok-piece.piece _ c.args.self.now.text.now c.disjunction.new.at a.2 (sym c.in_err-arrow.ensures))) c.from_residual-in_err-arrow.ensures.1
 
-pub arrow-next-returns : goal.arrow-next-returns
+pub arrow_next-returns : goal.arrow_next-returns
 unfolding chain_next run
-arrow-next-returns m c xs s arrow held =
-    let a = c.in-ok-piece.ensures xs held in
-    let q = claims c.disjunction.new.sheet xs a.0 c.in-ok-piece.piece c.in-ok-arrow.arrow c.args.self.now.text.now c.disjunction.new.at a.2 (sym c.in-ok-arrow.ensures) in
-    (q.0, goes_on _ _ _ _ _ _ (ap (λ b. run (arrow_behind b) c.args.self.now.text.now c.args.at.now) arrow ∙ c.in-ok-arrow-behind.ensures) ∙ goes_on (disjunction c.args.self.now.names.now (nest c.args.self.now.names.now c.args.depth)) _ _ _ _ _ a.1 ∙ goes_on _ _ _ _ _ _ q.1, q.2)
+arrow_next-returns m c xs s arrow held =
+    let a = c.in_ok-piece.ensures xs held in
+    let q = claims c.disjunction.new.sheet xs a.0 c.in_ok-piece.piece c.in_ok-arrow.arrow c.args.self.now.text.now c.disjunction.new.at a.2 (sym c.in_ok-arrow.ensures) in
+    (q.0, goes_on _ _ _ _ _ _ (ap (λ b. run (arrow_behind b) c.args.self.now.text.now c.args.at.now) arrow ∙ c.in_ok-arrow_behind.ensures) ∙ goes_on (disjunction c.args.self.now.names.now (nest c.args.self.now.names.now c.args.depth)) _ _ _ _ _ a.1 ∙ goes_on _ _ _ _ _ _ q.1, q.2)
 
 pub chained-loop-turn-init : goal.chained-loop-turn-init
 unfolding chained chain_words
@@ -352,11 +352,11 @@ chained-returns m c xs p begins arrow held =
     let all : Holds c.loop-turn.sheet (xs ++ formula_words (implied i.0.before i.0.last.formula)) =
     same-words c.loop-turn.sheet (xs ++ (chain_words i.0.before ++ formula_words i.0.last.formula)) _ (ap (λ l. xs ++ l) (sym (implied-words i.0.before i.0.last.formula)))
     (regrouped c.loop-turn.sheet xs (chain_words i.0.before) (formula_words i.0.last.formula) i.4) in
-    (record { formula = implied i.0.before i.0.last.formula; arrow = false }, i.1 ∙ goes_on _ concluded _ _ i.0 _ (while-over arrow_goes_on (chain_next (disjunction c.args.self.now.names.now (nest c.args.self.now.names.now c.args.depth))) 65536 c.loop-turn.-turn i.0 c.args.self.now.text.now c.loop-turn.at c.loop-turn-test.false), (refl, all))
+    (record { formula = implied i.0.before i.0.last.formula; arrow = false }, i.1 ∙ goes_on _ concluded _ _ i.0 _ (while-over arrow_goes_on (chain_next (disjunction c.args.self.now.names.now (nest c.args.self.now.names.now c.args.depth))) 65536 c.loop-turn._turn i.0 c.args.self.now.text.now c.loop-turn.at c.loop-turn-test.false), (refl, all))
 
-pub chained-returns-in-err-arrow : goal.chained-returns-in-err-arrow
+pub chained-returns-in_err-arrow : goal.chained-returns-in_err-arrow
 unfolding chain_for chain_words
-chained-returns-in-err-arrow m c xs p begins arrow held =
+chained-returns-in_err-arrow m c xs p begins arrow held =
     let i = c.loop-turn.invariant xs p begins arrow held in
     let goes : (i.0.last.arrow || eqb (get_or c.args.self.now.text.now c.loop-turn.at 0) 45) ≡ true =
     elim c.else-not-arrow.branch [
@@ -366,7 +366,7 @@ chained-returns-in-err-arrow m c xs p begins arrow held =
     let before = i.0.last.formula ∷ i.0.before in
     let implying : Holds c.imply.new.self (xs ++ chain_words before) =
     regrouped c.imply.new.self xs (chain_words i.0.before) (pos 5 ∷ pos 3 ∷ formula_words i.0.last.formula) (c.imply.ensures (xs ++ chain_words i.0.before) (formula_words i.0.last.formula) i.3 i.4) in
-    refused-by _ _ c.from-residual.result _ _ (i.1 ∙ stops _ concluded _ _ _ (while-stops arrow_goes_on (chain_next (disjunction c.args.self.now.names.now (nest c.args.self.now.names.now c.args.depth))) 65536 c.loop-turn.-turn i.0 c.args.self.now.text.now c.loop-turn.at _ c.loop-turn-test.true goes (c.in-err-arrow.ensures (xs ++ chain_words before) i.0 i.2 implying))) c.from-residual.ensures.1
+    refused-by _ _ c.from_residual.result _ _ (i.1 ∙ stops _ concluded _ _ _ (while-stops arrow_goes_on (chain_next (disjunction c.args.self.now.names.now (nest c.args.self.now.names.now c.args.depth))) 65536 c.loop-turn._turn i.0 c.args.self.now.text.now c.loop-turn.at _ c.loop-turn-test.true goes (c.in_err-arrow.ensures (xs ++ chain_words before) i.0 i.2 implying))) c.from_residual.ensures.1
 
 pub chained-loop-turn-preserved : goal.chained-loop-turn-preserved
 unfolding chain_for chain_words
@@ -380,9 +380,9 @@ chained-loop-turn-preserved m c xs p begins arrow held =
     let before = i.0.last.formula ∷ i.0.before in
     let implying : Holds c.imply.new.self (xs ++ chain_words before) =
     regrouped c.imply.new.self xs (chain_words i.0.before) (pos 5 ∷ pos 3 ∷ formula_words i.0.last.formula) (c.imply.ensures (xs ++ chain_words i.0.before) (formula_words i.0.last.formula) i.3 i.4) in
-    let n = c.in-ok-arrow.ensures (xs ++ chain_words before) i.0 i.2 implying in (
+    let n = c.in_ok-arrow.ensures (xs ++ chain_words before) i.0 i.2 implying in (
       record { before = before; last = n.0 },
-      i.1 ∙ bind-same _ _ concluded _ _ _ (while-goes arrow_goes_on (chain_next (disjunction c.args.self.now.names.now (nest c.args.self.now.names.now c.args.depth))) 65536 c.loop-turn.-turn i.0 c.args.self.now.text.now c.loop-turn.at (record { before = before; last = n.0 }) _ c.loop-turn-test.true goes n.1),
+      i.1 ∙ bind-same _ _ concluded _ _ _ (while-goes arrow_goes_on (chain_next (disjunction c.args.self.now.names.now (nest c.args.self.now.names.now c.args.depth))) 65536 c.loop-turn._turn i.0 c.args.self.now.text.now c.loop-turn.at (record { before = before; last = n.0 }) _ c.loop-turn-test.true goes n.1),
       n.2.0,
       implying.counted,
       n.2.1,
@@ -393,108 +393,108 @@ unfolding denied run
 denied-returns-then-depth-eq0 m c xs held =
     goes_on _ _ _ _ _ _ c.blanks.ensures ∙ stops _ _ _ _ _ (ap (λ r. run r c.args.self.now.text.now c.blanks.new.at) (no_deeper-atom c.args.self.now.names.now c.args.depth c.if-depth-eq0.true))
 
-pub denied-returns-in-err-piece : goal.denied-returns-in-err-piece
+pub denied-returns-in_err-piece : goal.denied-returns-in_err-piece
 unfolding denied atom run
-denied-returns-in-err-piece m c xs held =
-    refused-by _ _ c.from-residual.result _ _ (goes_on _ _ _ _ _ _ c.blanks.ensures ∙ stops _ _ _ _ _ (ap (λ r. run r c.args.self.now.text.now c.blanks.new.at) (deeper-atom c.args.self.now.names.now c.args.depth c.if-depth-eq0.false) ∙ c.in-err-piece.ensures xs held)) c.from-residual.ensures.1
+denied-returns-in_err-piece m c xs held =
+    refused-by _ _ c.from_residual.result _ _ (goes_on _ _ _ _ _ _ c.blanks.ensures ∙ stops _ _ _ _ _ (ap (λ r. run r c.args.self.now.text.now c.blanks.new.at) (deeper-atom c.args.self.now.names.now c.args.depth c.if-depth-eq0.false) ∙ c.in_err-piece.ensures xs held)) c.from_residual.ensures.1
 
-pub denied-returns-in-err-arrow : goal.denied-returns-in-err-arrow
+pub denied-returns-in_err-arrow : goal.denied-returns-in_err-arrow
 unfolding denied atom run
-denied-returns-in-err-arrow m c xs held =
-    let a = c.in-ok-piece.ensures xs held in
-    refused-by _ _ c.from-residual-in-err-arrow.result _ _ (goes_on _ _ _ _ _ _ c.blanks.ensures ∙ goes_on _ _ _ _ _ _ (ap (λ r. run r c.args.self.now.text.now c.blanks.new.at) (deeper-atom c.args.self.now.names.now c.args.depth c.if-depth-eq0.false) ∙ a.1) ∙ stops _ _ _ _ _ (no-claim c.atom.new.sheet xs a.0 c.in-ok-piece.piece _ c.args.self.now.text.now c.atom.new.at a.2 (sym c.in-err-arrow.ensures))) c.from-residual-in-err-arrow.ensures.1
+denied-returns-in_err-arrow m c xs held =
+    let a = c.in_ok-piece.ensures xs held in
+    refused-by _ _ c.from_residual-in_err-arrow.result _ _ (goes_on _ _ _ _ _ _ c.blanks.ensures ∙ goes_on _ _ _ _ _ _ (ap (λ r. run r c.args.self.now.text.now c.blanks.new.at) (deeper-atom c.args.self.now.names.now c.args.depth c.if-depth-eq0.false) ∙ a.1) ∙ stops _ _ _ _ _ (no-claim c.atom.new.sheet xs a.0 c.in_ok-piece.piece _ c.args.self.now.text.now c.atom.new.at a.2 (sym c.in_err-arrow.ensures))) c.from_residual-in_err-arrow.ensures.1
 
 pub denied-returns : goal.denied-returns
 unfolding denied atom run formula_words
 denied-returns m c xs held =
-    let a = c.in-ok-piece.ensures xs held in
-    let q = claims c.atom.new.sheet xs a.0 c.in-ok-piece.piece c.in-ok-arrow.arrow c.args.self.now.text.now c.atom.new.at a.2 (sym c.in-ok-arrow.ensures) in
+    let a = c.in_ok-piece.ensures xs held in
+    let q = claims c.atom.new.sheet xs a.0 c.in_ok-piece.piece c.in_ok-arrow.arrow c.args.self.now.text.now c.atom.new.at a.2 (sym c.in_ok-arrow.ensures) in
     (OfClaim (record { formula = Not q.0.formula; arrow = q.0.arrow }), goes_on _ _ _ _ _ _ c.blanks.ensures ∙ goes_on _ _ _ _ _ _ (ap (λ r. run r c.args.self.now.text.now c.blanks.new.at) (deeper-atom c.args.self.now.names.now c.args.depth c.if-depth-eq0.false) ∙ a.1) ∙ goes_on _ _ _ _ _ _ q.1, (q.2.0, c.insert.ensures xs (formula_words q.0.formula) held.counted q.2.1))
 
-pub from-word-returns-then-is-word : goal.from-word-returns-then-is-word
+pub from_word-returns-then-is_word : goal.from_word-returns-then-is_word
 unfolding from_word
-from-word-returns-then-is-word m c xs held =
-    read_by _ _ _ c.denied.result _ (chose _ _ _ _ _ (sym c.if-is-word.ensures)) (c.denied.ensures xs held)
+from_word-returns-then-is_word m c xs held =
+    read_by _ _ _ c.denied.result _ (chose _ _ _ _ _ (sym c.if-is_word.ensures)) (c.denied.ensures xs held)
 
-pub from-word-returns-in-err-named : goal.from-word-returns-in-err-named
+pub from_word-returns-in_err-named : goal.from_word-returns-in_err-named
 unfolding from_word
-from-word-returns-in-err-named m c xs held =
-    refused-by _ _ c.from-residual.result _ _ (passed_over _ _ _ _ _ (sym c.if-is-word.ensures) ∙ stops _ _ _ _ _ (c.in-err-named.ensures xs held)) c.from-residual.ensures.1
+from_word-returns-in_err-named m c xs held =
+    refused-by _ _ c.from_residual.result _ _ (passed_over _ _ _ _ _ (sym c.if-is_word.ensures) ∙ stops _ _ _ _ _ (c.in_err-named.ensures xs held)) c.from_residual.ensures.1
 
-pub from-word-returns : goal.from-word-returns
+pub from_word-returns : goal.from_word-returns
 unfolding from_word
-from-word-returns m c xs held =
-    let t = c.in-ok-named.ensures xs held in
-    read_by _ _ _ c.from-primary.result _ (passed_over _ _ _ _ _ (sym c.if-is-word.ensures) ∙ goes_on _ _ _ _ _ _ t.1) (c.from-primary.ensures xs t.0 held.counted t.2)
+from_word-returns m c xs held =
+    let t = c.in_ok-named.ensures xs held in
+    read_by _ _ _ c.from_primary.result _ (passed_over _ _ _ _ _ (sym c.if-is_word.ensures) ∙ goes_on _ _ _ _ _ _ t.1) (c.from_primary.ensures xs t.0 held.counted t.2)
 
-pub enclosed-returns-in-err-sign : goal.enclosed-returns-in-err-sign
+pub enclosed-returns-in_err-sign : goal.enclosed-returns-in_err-sign
 unfolding enclosed
-enclosed-returns-in-err-sign m c xs held =
-    refused-by _ _ c.from-residual.result _ _ (stops _ _ _ _ _ c.in-err-sign.ensures) c.from-residual.ensures.1
+enclosed-returns-in_err-sign m c xs held =
+    refused-by _ _ c.from_residual.result _ _ (stops _ _ _ _ _ c.in_err-sign.ensures) c.from_residual.ensures.1
 
 pub enclosed-returns-then-depth-eq0 : goal.enclosed-returns-then-depth-eq0
 unfolding enclosed run
 enclosed-returns-then-depth-eq0 m c xs held =
-    goes_on _ _ _ _ _ _ c.in-ok-sign.ensures ∙ stops _ _ _ _ _ (ap (λ r. run r c.args.self.now.text.now c.sign.new.at) (no_deeper-formula c.args.self.now.names.now c.args.depth c.if-depth-eq0.true))
+    goes_on _ _ _ _ _ _ c.in_ok-sign.ensures ∙ stops _ _ _ _ _ (ap (λ r. run r c.args.self.now.text.now c.sign.new.at) (no_deeper-formula c.args.self.now.names.now c.args.depth c.if-depth-eq0.true))
 
-pub enclosed-returns-in-err-piece : goal.enclosed-returns-in-err-piece
+pub enclosed-returns-in_err-piece : goal.enclosed-returns-in_err-piece
 unfolding enclosed
-enclosed-returns-in-err-piece m c xs held =
-    refused-by _ _ c.from-residual-in-err-piece.result _ _ (goes_on _ _ _ _ _ _ c.in-ok-sign.ensures ∙ stops _ _ _ _ _ (ap (λ r. run r c.args.self.now.text.now c.sign.new.at) (deeper-formula c.args.self.now.names.now c.args.depth c.if-depth-eq0.false) ∙ c.in-err-piece.ensures xs held)) c.from-residual-in-err-piece.ensures.1
+enclosed-returns-in_err-piece m c xs held =
+    refused-by _ _ c.from_residual-in_err-piece.result _ _ (goes_on _ _ _ _ _ _ c.in_ok-sign.ensures ∙ stops _ _ _ _ _ (ap (λ r. run r c.args.self.now.text.now c.sign.new.at) (deeper-formula c.args.self.now.names.now c.args.depth c.if-depth-eq0.false) ∙ c.in_err-piece.ensures xs held)) c.from_residual-in_err-piece.ensures.1
 
-pub enclosed-returns-in-err-sign-2 : goal.enclosed-returns-in-err-sign-2
+pub enclosed-returns-in_err-sign-2 : goal.enclosed-returns-in_err-sign-2
 unfolding enclosed
-enclosed-returns-in-err-sign-2 m c xs held =
-    let a = c.in-ok-piece.ensures xs held in
-    refused-by _ _ c.from-residual-in-err-sign-2.result _ _ (goes_on _ _ _ _ _ _ c.in-ok-sign.ensures ∙ goes_on _ _ _ _ _ _ (ap (λ r. run r c.args.self.now.text.now c.sign.new.at) (deeper-formula c.args.self.now.names.now c.args.depth c.if-depth-eq0.false) ∙ a.1) ∙ stops _ _ _ _ _ c.in-err-sign-2.ensures) c.from-residual-in-err-sign-2.ensures.1
+enclosed-returns-in_err-sign-2 m c xs held =
+    let a = c.in_ok-piece.ensures xs held in
+    refused-by _ _ c.from_residual-in_err-sign-2.result _ _ (goes_on _ _ _ _ _ _ c.in_ok-sign.ensures ∙ goes_on _ _ _ _ _ _ (ap (λ r. run r c.args.self.now.text.now c.sign.new.at) (deeper-formula c.args.self.now.names.now c.args.depth c.if-depth-eq0.false) ∙ a.1) ∙ stops _ _ _ _ _ c.in_err-sign-2.ensures) c.from_residual-in_err-sign-2.ensures.1
 
 pub enclosed-returns-in-Term : goal.enclosed-returns-in-Term
 unfolding enclosed from_piece
 enclosed-returns-in-Term m c xs held =
-    let a = c.in-ok-piece.ensures xs held in
-    let q = term-stands c.equivalence.new.sheet xs a.0 c.in-ok-piece.piece a.2 c.in-Term.is in
-    read_by _ _ _ c.from-primary.result _ (goes_on _ _ _ _ _ _ c.in-ok-sign.ensures ∙ goes_on _ _ _ _ _ _ (ap (λ r. run r c.args.self.now.text.now c.sign.new.at) (deeper-formula c.args.self.now.names.now c.args.depth c.if-depth-eq0.false) ∙ a.1 ∙ ap (λ z. Read z c.equivalence.new.at) q.1) ∙ goes_on _ _ _ _ _ _ c.in-ok-sign-2.ensures) (c.from-primary.ensures xs q.0 held.counted q.2)
+    let a = c.in_ok-piece.ensures xs held in
+    let q = term-stands c.equivalence.new.sheet xs a.0 c.in_ok-piece.piece a.2 c.in-Term.is in
+    read_by _ _ _ c.from_primary.result _ (goes_on _ _ _ _ _ _ c.in_ok-sign.ensures ∙ goes_on _ _ _ _ _ _ (ap (λ r. run r c.args.self.now.text.now c.sign.new.at) (deeper-formula c.args.self.now.names.now c.args.depth c.if-depth-eq0.false) ∙ a.1 ∙ ap (λ z. Read z c.equivalence.new.at) q.1) ∙ goes_on _ _ _ _ _ _ c.in_ok-sign-2.ensures) (c.from_primary.ensures xs q.0 held.counted q.2)
 
 pub enclosed-returns-in-Claim : goal.enclosed-returns-in-Claim
 unfolding enclosed from_piece run
 enclosed-returns-in-Claim m c xs held =
-    let a = c.in-ok-piece.ensures xs held in
-    let q = claim-stands c.equivalence.new.sheet xs a.0 c.in-ok-piece.piece c.in-Claim.arrow a.2 c.in-Claim.is in
-    (OfClaim q.0, goes_on _ _ _ _ _ _ c.in-ok-sign.ensures ∙ goes_on _ _ _ _ _ _ (ap (λ r. run r c.args.self.now.text.now c.sign.new.at) (deeper-formula c.args.self.now.names.now c.args.depth c.if-depth-eq0.false) ∙ a.1 ∙ ap (λ z. Read z c.equivalence.new.at) q.1) ∙ goes_on _ _ _ _ _ _ c.in-ok-sign-2.ensures, q.2)
+    let a = c.in_ok-piece.ensures xs held in
+    let q = claim-stands c.equivalence.new.sheet xs a.0 c.in_ok-piece.piece c.in-Claim.arrow a.2 c.in-Claim.is in
+    (OfClaim q.0, goes_on _ _ _ _ _ _ c.in_ok-sign.ensures ∙ goes_on _ _ _ _ _ _ (ap (λ r. run r c.args.self.now.text.now c.sign.new.at) (deeper-formula c.args.self.now.names.now c.args.depth c.if-depth-eq0.false) ∙ a.1 ∙ ap (λ z. Read z c.equivalence.new.at) q.1) ∙ goes_on _ _ _ _ _ _ c.in_ok-sign-2.ensures, q.2)
 
-pub atom-returns-in-err-word : goal.atom-returns-in-err-word
+pub atom-returns-in_err-word : goal.atom-returns-in_err-word
 unfolding atom_of
-atom-returns-in-err-word m c xs held =
-    refused-by _ _ c.from-residual.result _ _ (chose _ _ _ _ _ (ap is_letter (sym c.front-c.ensures) ∙ sym c.if-is-letter.ensures) ∙ stops _ _ _ _ _ c.in-err-word.ensures) c.from-residual.ensures.1
+atom-returns-in_err-word m c xs held =
+    refused-by _ _ c.from_residual.result _ _ (chose _ _ _ _ _ (ap is_letter (sym c.front-c.ensures) ∙ sym c.if-is_letter.ensures) ∙ stops _ _ _ _ _ c.in_err-word.ensures) c.from_residual.ensures.1
 
-pub atom-returns-then-is-letter : goal.atom-returns-then-is-letter
+pub atom-returns-then-is_letter : goal.atom-returns-then-is_letter
 unfolding atom_of
-atom-returns-then-is-letter m c xs held =
-    read_by _ _ _ c.from-word.result _ (chose _ _ _ _ _ (ap is_letter (sym c.front-c.ensures) ∙ sym c.if-is-letter.ensures) ∙ goes_on _ _ _ _ _ _ c.in-ok-word.ensures) (c.from-word.ensures xs held)
+atom-returns-then-is_letter m c xs held =
+    read_by _ _ _ c.from_word.result _ (chose _ _ _ _ _ (ap is_letter (sym c.front-c.ensures) ∙ sym c.if-is_letter.ensures) ∙ goes_on _ _ _ _ _ _ c.in_ok-word.ensures) (c.from_word.ensures xs held)
 
 pub atom-returns-then-c-eq40 : goal.atom-returns-then-c-eq40
 unfolding atom_of
 atom-returns-then-c-eq40 m c xs held =
-    read_by _ _ _ c.enclosed.result _ (passed_over _ _ _ _ _ (ap is_letter (sym c.front-c.ensures) ∙ sym c.if-is-letter.ensures) ∙ chose _ _ _ _ _ (eq-eqb _ 40 (sym c.front-c.ensures ∙ c.if-c-eq40.true))) (c.enclosed.ensures xs held)
+    read_by _ _ _ c.enclosed.result _ (passed_over _ _ _ _ _ (ap is_letter (sym c.front-c.ensures) ∙ sym c.if-is_letter.ensures) ∙ chose _ _ _ _ _ (eq-eqb _ 40 (sym c.front-c.ensures ∙ c.if-c-eq40.true))) (c.enclosed.ensures xs held)
 
-pub atom-returns-in-err-negated : goal.atom-returns-in-err-negated
+pub atom-returns-in_err-negated : goal.atom-returns-in_err-negated
 unfolding atom_of
-atom-returns-in-err-negated m c xs held =
-    refused-by _ _ c.from-residual-in-err-negated.result _ _ (passed_over _ _ _ _ _ (ap is_letter (sym c.front-c.ensures) ∙ sym c.if-is-letter.ensures) ∙ passed_over _ _ _ _ _ (ne_eqb _ 40 (λ e. c.if-c-eq40.false (c.front-c.ensures ∙ e))) ∙ chose _ _ _ _ _ (eq-eqb _ 45 (sym c.front-c.ensures ∙ c.if-c-eq45.true)) ∙ stops _ _ _ _ _ (c.in-err-negated.ensures xs held)) c.from-residual-in-err-negated.ensures.1
+atom-returns-in_err-negated m c xs held =
+    refused-by _ _ c.from_residual-in_err-negated.result _ _ (passed_over _ _ _ _ _ (ap is_letter (sym c.front-c.ensures) ∙ sym c.if-is_letter.ensures) ∙ passed_over _ _ _ _ _ (ne_eqb _ 40 (λ e. c.if-c-eq40.false (c.front-c.ensures ∙ e))) ∙ chose _ _ _ _ _ (eq-eqb _ 45 (sym c.front-c.ensures ∙ c.if-c-eq45.true)) ∙ stops _ _ _ _ _ (c.in_err-negated.ensures xs held)) c.from_residual-in_err-negated.ensures.1
 
 pub atom-returns-then-c-eq45 : goal.atom-returns-then-c-eq45
 unfolding atom_of
 atom-returns-then-c-eq45 m c xs held =
-    let t = c.in-ok-negated.ensures xs held in
-    read_by _ _ _ c.from-product.result _ (passed_over _ _ _ _ _ (ap is_letter (sym c.front-c.ensures) ∙ sym c.if-is-letter.ensures) ∙ passed_over _ _ _ _ _ (ne_eqb _ 40 (λ e. c.if-c-eq40.false (c.front-c.ensures ∙ e))) ∙ chose _ _ _ _ _ (eq-eqb _ 45 (sym c.front-c.ensures ∙ c.if-c-eq45.true)) ∙ goes_on _ _ _ _ _ _ t.1) (c.from-product.ensures xs t.0 held.counted t.2)
+    let t = c.in_ok-negated.ensures xs held in
+    read_by _ _ _ c.from_product.result _ (passed_over _ _ _ _ _ (ap is_letter (sym c.front-c.ensures) ∙ sym c.if-is_letter.ensures) ∙ passed_over _ _ _ _ _ (ne_eqb _ 40 (λ e. c.if-c-eq40.false (c.front-c.ensures ∙ e))) ∙ chose _ _ _ _ _ (eq-eqb _ 45 (sym c.front-c.ensures ∙ c.if-c-eq45.true)) ∙ goes_on _ _ _ _ _ _ t.1) (c.from_product.ensures xs t.0 held.counted t.2)
 
-pub atom-returns-in-err-primary : goal.atom-returns-in-err-primary
+pub atom-returns-in_err-primary : goal.atom-returns-in_err-primary
 unfolding atom_of
-atom-returns-in-err-primary m c xs held =
-    refused-by _ _ c.from-residual-in-err-primary.result _ _ (passed_over _ _ _ _ _ (ap is_letter (sym c.front-c.ensures) ∙ sym c.if-is-letter.ensures) ∙ passed_over _ _ _ _ _ (ne_eqb _ 40 (λ e. c.if-c-eq40.false (c.front-c.ensures ∙ e))) ∙ passed_over _ _ _ _ _ (ne_eqb _ 45 (λ e. c.if-c-eq45.false (c.front-c.ensures ∙ e))) ∙ stops _ _ _ _ _ (c.in-err-primary.ensures xs held)) c.from-residual-in-err-primary.ensures.1
+atom-returns-in_err-primary m c xs held =
+    refused-by _ _ c.from_residual-in_err-primary.result _ _ (passed_over _ _ _ _ _ (ap is_letter (sym c.front-c.ensures) ∙ sym c.if-is_letter.ensures) ∙ passed_over _ _ _ _ _ (ne_eqb _ 40 (λ e. c.if-c-eq40.false (c.front-c.ensures ∙ e))) ∙ passed_over _ _ _ _ _ (ne_eqb _ 45 (λ e. c.if-c-eq45.false (c.front-c.ensures ∙ e))) ∙ stops _ _ _ _ _ (c.in_err-primary.ensures xs held)) c.from_residual-in_err-primary.ensures.1
 
 pub atom-returns : goal.atom-returns
 unfolding atom_of
 atom-returns m c xs held =
-    let t = c.in-ok-primary.ensures xs held in
-    read_by _ _ _ c.from-primary.result _ (passed_over _ _ _ _ _ (ap is_letter (sym c.front-c.ensures) ∙ sym c.if-is-letter.ensures) ∙ passed_over _ _ _ _ _ (ne_eqb _ 40 (λ e. c.if-c-eq40.false (c.front-c.ensures ∙ e))) ∙ passed_over _ _ _ _ _ (ne_eqb _ 45 (λ e. c.if-c-eq45.false (c.front-c.ensures ∙ e))) ∙ goes_on _ _ _ _ _ _ t.1) (c.from-primary.ensures xs t.0 held.counted t.2)
+    let t = c.in_ok-primary.ensures xs held in
+    read_by _ _ _ c.from_primary.result _ (passed_over _ _ _ _ _ (ap is_letter (sym c.front-c.ensures) ∙ sym c.if-is_letter.ensures) ∙ passed_over _ _ _ _ _ (ne_eqb _ 40 (λ e. c.if-c-eq40.false (c.front-c.ensures ∙ e))) ∙ passed_over _ _ _ _ _ (ne_eqb _ 45 (λ e. c.if-c-eq45.false (c.front-c.ensures ∙ e))) ∙ goes_on _ _ _ _ _ _ t.1) (c.from_primary.ensures xs t.0 held.counted t.2)

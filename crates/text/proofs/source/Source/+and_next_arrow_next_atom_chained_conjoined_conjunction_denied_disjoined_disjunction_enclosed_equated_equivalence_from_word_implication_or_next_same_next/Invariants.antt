@@ -13,25 +13,25 @@ use Rattle.text.proofs.source.Source.+and_next_arrow_next_atom_chained_conjoined
 abbrev pub invariant-conjoined-loop-turn : goal.invariant-conjoined-loop-turn
 invariant-conjoined-loop-turn l =
     (xs : List ℤ) (p : Claim) → Behind xs l.from → p.arrow ≡ l.initial.arrow → Holds l.initial.sheet (xs ++ formula_words p.formula) →
-    (q : Claim) × (run (row_for 65536 97 (keyword (codes "and")) And (atom l.self.names.now (nest l.self.names.now l.depth)) p) l.self.text.now l.initial.at ≡ run (row_for (65536 - l.-turn) 97 (keyword (codes "and")) And (atom l.self.names.now (nest l.self.names.now l.depth)) q) l.self.text.now l.at) ×
+    (q : Claim) × (run (row_for 65536 97 (keyword (codes "and")) And (atom l.self.names.now (nest l.self.names.now l.depth)) p) l.self.text.now l.initial.at ≡ run (row_for (65536 - l._turn) 97 (keyword (codes "and")) And (atom l.self.names.now (nest l.self.names.now l.depth)) q) l.self.text.now l.at) ×
     (q.arrow ≡ l.arrow) × Holds l.sheet (xs ++ formula_words q.formula)
 
 abbrev pub invariant-disjoined-loop-turn : goal.invariant-disjoined-loop-turn
 invariant-disjoined-loop-turn l =
     (xs : List ℤ) (p : Claim) → Behind xs l.from → p.arrow ≡ l.initial.arrow → Holds l.initial.sheet (xs ++ formula_words p.formula) →
-    (q : Claim) × (run (row_for 65536 111 (keyword (codes "or")) Or (conjunction l.self.names.now (nest l.self.names.now l.depth)) p) l.self.text.now l.initial.at ≡ run (row_for (65536 - l.-turn) 111 (keyword (codes "or")) Or (conjunction l.self.names.now (nest l.self.names.now l.depth)) q) l.self.text.now l.at) ×
+    (q : Claim) × (run (row_for 65536 111 (keyword (codes "or")) Or (conjunction l.self.names.now (nest l.self.names.now l.depth)) p) l.self.text.now l.initial.at ≡ run (row_for (65536 - l._turn) 111 (keyword (codes "or")) Or (conjunction l.self.names.now (nest l.self.names.now l.depth)) q) l.self.text.now l.at) ×
     (q.arrow ≡ l.arrow) × Holds l.sheet (xs ++ formula_words q.formula)
 
 abbrev pub invariant-equated-loop-turn : goal.invariant-equated-loop-turn
 invariant-equated-loop-turn l =
     (xs : List ℤ) (p : Claim) → Behind xs l.from → p.arrow ≡ l.initial.arrow → Holds l.initial.sheet (xs ++ formula_words p.formula) →
-    (q : Claim) × (run (row_for 65536 60 (sign (codes "<->")) equivalent (implication l.self.names.now (nest l.self.names.now l.depth)) p) l.self.text.now l.initial.at ≡ run (row_for (65536 - l.-turn) 60 (sign (codes "<->")) equivalent (implication l.self.names.now (nest l.self.names.now l.depth)) q) l.self.text.now l.at) ×
+    (q : Claim) × (run (row_for 65536 60 (sign (codes "<->")) equivalent (implication l.self.names.now (nest l.self.names.now l.depth)) p) l.self.text.now l.initial.at ≡ run (row_for (65536 - l._turn) 60 (sign (codes "<->")) equivalent (implication l.self.names.now (nest l.self.names.now l.depth)) q) l.self.text.now l.at) ×
     (q.arrow ≡ l.arrow) × Holds l.sheet (xs ++ formula_words q.formula)
 
 abbrev pub invariant-chained-loop-turn : goal.invariant-chained-loop-turn
 invariant-chained-loop-turn l =
     (xs : List ℤ) (p : Claim) → Behind xs l.initial.from → p.arrow ≡ l.initial.arrow → Holds l.initial.sheet (xs ++ formula_words p.formula) →
-    (s : Chain) × (run (chained (disjunction l.self.names.now (nest l.self.names.now l.depth)) p) l.self.text.now l.initial.at ≡ run (chain_for (65536 - l.-turn) (disjunction l.self.names.now (nest l.self.names.now l.depth)) s >>= concluded) l.self.text.now l.at) ×
+    (s : Chain) × (run (chained (disjunction l.self.names.now (nest l.self.names.now l.depth)) p) l.self.text.now l.initial.at ≡ run (chain_for (65536 - l._turn) (disjunction l.self.names.now (nest l.self.names.now l.depth)) s >>= concluded) l.self.text.now l.at) ×
     (s.last.arrow ≡ l.arrow) × Behind (xs ++ chain_words s.before) l.from × Holds l.sheet ((xs ++ chain_words s.before) ++ formula_words s.last.formula)
 
 abbrev pub decreases-denied : goal.decreases-denied
@@ -40,14 +40,14 @@ decreases-denied l = l.depth * 20 + 0
 abbrev pub decreases-enclosed : goal.decreases-enclosed
 decreases-enclosed l = l.depth * 20 + 0
 
-abbrev pub decreases-from-word : goal.decreases-from-word
-decreases-from-word l = l.depth * 20 + 1
+abbrev pub decreases-from_word : goal.decreases-from_word
+decreases-from_word l = l.depth * 20 + 1
 
 abbrev pub decreases-atom : goal.decreases-atom
 decreases-atom l = l.depth * 20 + 2
 
-abbrev pub decreases-and-next : goal.decreases-and-next
-decreases-and-next l = l.depth * 20 + 3
+abbrev pub decreases-and_next : goal.decreases-and_next
+decreases-and_next l = l.depth * 20 + 3
 
 abbrev pub decreases-conjoined : goal.decreases-conjoined
 decreases-conjoined l = l.depth * 20 + 4
@@ -55,8 +55,8 @@ decreases-conjoined l = l.depth * 20 + 4
 abbrev pub decreases-conjunction : goal.decreases-conjunction
 decreases-conjunction l = l.depth * 20 + 5
 
-abbrev pub decreases-or-next : goal.decreases-or-next
-decreases-or-next l = l.depth * 20 + 6
+abbrev pub decreases-or_next : goal.decreases-or_next
+decreases-or_next l = l.depth * 20 + 6
 
 abbrev pub decreases-disjoined : goal.decreases-disjoined
 decreases-disjoined l = l.depth * 20 + 7
@@ -64,8 +64,8 @@ decreases-disjoined l = l.depth * 20 + 7
 abbrev pub decreases-disjunction : goal.decreases-disjunction
 decreases-disjunction l = l.depth * 20 + 8
 
-abbrev pub decreases-arrow-next : goal.decreases-arrow-next
-decreases-arrow-next l = l.depth * 20 + 9
+abbrev pub decreases-arrow_next : goal.decreases-arrow_next
+decreases-arrow_next l = l.depth * 20 + 9
 
 abbrev pub decreases-chained : goal.decreases-chained
 decreases-chained l = l.depth * 20 + 10
@@ -73,8 +73,8 @@ decreases-chained l = l.depth * 20 + 10
 abbrev pub decreases-implication : goal.decreases-implication
 decreases-implication l = l.depth * 20 + 11
 
-abbrev pub decreases-same-next : goal.decreases-same-next
-decreases-same-next l = l.depth * 20 + 12
+abbrev pub decreases-same_next : goal.decreases-same_next
+decreases-same_next l = l.depth * 20 + 12
 
 abbrev pub decreases-equated : goal.decreases-equated
 decreases-equated l = l.depth * 20 + 13

@@ -6,16 +6,16 @@ use Rattle.grammar.specs.Tokens.{blanks_for}
 use Rattle.grammar.proofs.Tokens.{blanks-again, blanks-ended, blanks-over}
 use Rattle.text.proofs.source.Source.blanks.Goals as goal
 
-pub returns-then-not-is-blank : goal.returns-then-not-is-blank
-returns-then-not-is-blank c =
-    let e : is_blank (get_or c.args.self.now.text.now c.loop-turn.at 0) ≡ false = ap is_blank (sym c.front.ensures) ∙ sym c.if-not-is-blank.ensures in
+pub returns-then-not-is_blank : goal.returns-then-not-is_blank
+returns-then-not-is_blank c =
+    let e : is_blank (get_or c.args.self.now.text.now c.loop-turn.at 0) ≡ false = ap is_blank (sym c.front.ensures) ∙ sym c.if-not-is_blank.ensures in
     c.loop-turn.invariant ∙ blanks-ended _ c.args.self.now.text.now c.loop-turn.at e
 
 pub loop-turn-preserved : goal.loop-turn-preserved
 loop-turn-preserved c =
-    let e : is_blank (get_or c.args.self.now.text.now c.loop-turn.at 0) ≡ true = ap is_blank (sym c.front.ensures) ∙ sym c.if-not-is-blank.ensures in
-    c.loop-turn.invariant ∙ blanks-again 65536 c.loop-turn.-turn c.args.self.now.text.now c.loop-turn.at c.loop-turn-test.true e ∙
-    ap (λ n. run (blanks_for (65536 - (c.loop-turn.-turn + 1))) c.args.self.now.text.now n) (sym c.pass.ensures)
+    let e : is_blank (get_or c.args.self.now.text.now c.loop-turn.at 0) ≡ true = ap is_blank (sym c.front.ensures) ∙ sym c.if-not-is_blank.ensures in
+    c.loop-turn.invariant ∙ blanks-again 65536 c.loop-turn._turn c.args.self.now.text.now c.loop-turn.at c.loop-turn-test.true e ∙
+    ap (λ n. run (blanks_for (65536 - (c.loop-turn._turn + 1))) c.args.self.now.text.now n) (sym c.pass.ensures)
 
 pub returns : goal.returns
-returns c = c.loop-turn.invariant ∙ blanks-over 65536 c.loop-turn.-turn c.args.self.now.text.now c.loop-turn.at c.loop-turn-test.false
+returns c = c.loop-turn.invariant ∙ blanks-over 65536 c.loop-turn._turn c.args.self.now.text.now c.loop-turn.at c.loop-turn-test.false

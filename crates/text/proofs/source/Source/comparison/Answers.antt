@@ -11,25 +11,25 @@ use Rattle.text.proofs.Exits.{stops_at, handed-on}
 use Rattle.text.proofs.Steps.{read_by, refused-by, chose, passed_over, regrouped}
 use Rattle.text.proofs.source.Source.comparison.Goals as goal
 
-pub returns-then-not-begins-relation : goal.returns-then-not-begins-relation
+pub returns-then-not-begins_relation : goal.returns-then-not-begins_relation
 unfolding comparison_of run
-returns-then-not-begins-relation c xs t begins held = (OfTerm t, passed_over _ _ _ _ _ (ap begins_relation (sym c.front.ensures) ∙ sym c.if-not-begins-relation.ensures), held)
+returns-then-not-begins_relation c xs t begins held = (OfTerm t, passed_over _ _ _ _ _ (ap begins_relation (sym c.front.ensures) ∙ sym c.if-not-begins_relation.ensures), held)
 
-pub returns-in-err-relation : goal.returns-in-err-relation
+pub returns-in_err-relation : goal.returns-in_err-relation
 unfolding comparison_of
-returns-in-err-relation c xs t begins held =
-    refused-by _ _ c.from-residual.result _ _ (chose _ _ _ _ _ (ap begins_relation (sym c.front.ensures) ∙ sym c.if-not-begins-relation.ensures) ∙ stops _ _ _ _ _ c.in-err-relation.ensures) c.from-residual.ensures.1
+returns-in_err-relation c xs t begins held =
+    refused-by _ _ c.from_residual.result _ _ (chose _ _ _ _ _ (ap begins_relation (sym c.front.ensures) ∙ sym c.if-not-begins_relation.ensures) ∙ stops _ _ _ _ _ c.in_err-relation.ensures) c.from_residual.ensures.1
 
-pub returns-in-err-arrow : goal.returns-in-err-arrow
+pub returns-in_err-arrow : goal.returns-in_err-arrow
 unfolding comparison_of
-returns-in-err-arrow c xs t begins held =
-    refused-by _ _ c.from-residual-in-err-arrow.result _ _ (chose _ _ _ _ _ (ap begins_relation (sym c.front.ensures) ∙ sym c.if-not-begins-relation.ensures) ∙ goes_on _ _ _ _ _ _ c.in-ok-relation.ensures ∙ stops _ _ _ _ _ (c.in-err-arrow.ensures (xs ++ term_words t) held)) c.from-residual-in-err-arrow.ensures.1
+returns-in_err-arrow c xs t begins held =
+    refused-by _ _ c.from_residual-in_err-arrow.result _ _ (chose _ _ _ _ _ (ap begins_relation (sym c.front.ensures) ∙ sym c.if-not-begins_relation.ensures) ∙ goes_on _ _ _ _ _ _ c.in_ok-relation.ensures ∙ stops _ _ _ _ _ (c.in_err-arrow.ensures (xs ++ term_words t) held)) c.from_residual-in_err-arrow.ensures.1
 
 pub returns : goal.returns
 unfolding comparison_of run
 returns c xs t begins held =
-    let s = c.in-ok-arrow.ensures (xs ++ term_words t) held in (
-      OfClaim (record { formula = compared c.in-ok-relation.relation t s.0.term; arrow = s.0.arrow }),
-      chose _ _ _ _ _ (ap begins_relation (sym c.front.ensures) ∙ sym c.if-not-begins-relation.ensures) ∙ goes_on _ _ _ _ _ _ c.in-ok-relation.ensures ∙ goes_on _ _ _ _ _ _ s.1,
+    let s = c.in_ok-arrow.ensures (xs ++ term_words t) held in (
+      OfClaim (record { formula = compared c.in_ok-relation.relation t s.0.term; arrow = s.0.arrow }),
+      chose _ _ _ _ _ (ap begins_relation (sym c.front.ensures) ∙ sym c.if-not-begins_relation.ensures) ∙ goes_on _ _ _ _ _ _ c.in_ok-relation.ensures ∙ goes_on _ _ _ _ _ _ s.1,
       (s.2.0, c.compare.ensures xs t s.0.term begins held.counted (regrouped c.sum.new.sheet xs (term_words t) (term_words s.0.term) s.2.1)),
     )

@@ -11,10 +11,10 @@ use Rattle.text.proofs.source.Source.digits.Goals as goal
 abbrev fits : ℕ → ℕ → Bool
 fits n d = is_digit d && leb (n * 10 + (d - 48)) 65535
 
-pub returns-then-not-is-digit : goal.returns-then-not-is-digit
-returns-then-not-is-digit c =
+pub returns-then-not-is_digit : goal.returns-then-not-is_digit
+returns-then-not-is_digit c =
     let e : fits c.loop-turn.number (get_or c.args.self.now.text.now c.loop-turn.at 0) ≡ false =
-    ap (fits c.loop-turn.number) (sym c.front-c.ensures) ∙ and_left (is_digit c.front-c.result) _ (sym c.if-not-is-digit.ensures) in
+    ap (fits c.loop-turn.number) (sym c.front-c.ensures) ∙ and_left (is_digit c.front-c.result) _ (sym c.if-not-is_digit.ensures) in
     c.loop-turn.invariant.0 ∙ digits-ended _ c.loop-turn.number c.args.self.now.text.now c.loop-turn.at e
 
 pub returns-then-longer-gt-LARGEST : goal.returns-then-longer-gt-LARGEST
@@ -26,11 +26,11 @@ returns-then-longer-gt-LARGEST c =
 pub loop-turn-preserved : goal.loop-turn-preserved
 loop-turn-preserved c =
     let e : fits c.loop-turn.number (get_or c.args.self.now.text.now c.loop-turn.at 0) ≡ true =
-    ap (fits c.loop-turn.number) (sym c.front-c.ensures) ∙ and_from (is_digit c.front-c.result) _ (sym c.if-not-is-digit.ensures) (le-leb _ 65535 c.if-longer-gt-LARGEST.false) in (
-      c.loop-turn.invariant.0 ∙ digits-again 5 c.loop-turn.-turn c.loop-turn.number c.args.self.now.text.now c.loop-turn.at c.loop-turn-test.true e ∙
-          ap₂ (λ d n. run (digits_for (5 - (c.loop-turn.-turn + 1)) (c.loop-turn.number * 10 + (d - 48))) c.args.self.now.text.now n) (sym c.front-c.ensures) (sym c.pass.ensures),
+    ap (fits c.loop-turn.number) (sym c.front-c.ensures) ∙ and_from (is_digit c.front-c.result) _ (sym c.if-not-is_digit.ensures) (le-leb _ 65535 c.if-longer-gt-LARGEST.false) in (
+      c.loop-turn.invariant.0 ∙ digits-again 5 c.loop-turn._turn c.loop-turn.number c.args.self.now.text.now c.loop-turn.at c.loop-turn-test.true e ∙
+          ap₂ (λ d n. run (digits_for (5 - (c.loop-turn._turn + 1)) (c.loop-turn.number * 10 + (d - 48))) c.args.self.now.text.now n) (sym c.front-c.ensures) (sym c.pass.ensures),
       c.if-longer-gt-LARGEST.false,
     )
 
 pub returns : goal.returns
-returns c = c.loop-turn.invariant.0 ∙ digits-over 5 c.loop-turn.-turn c.loop-turn.number c.args.self.now.text.now c.loop-turn.at c.loop-turn-test.false
+returns c = c.loop-turn.invariant.0 ∙ digits-over 5 c.loop-turn._turn c.loop-turn.number c.args.self.now.text.now c.loop-turn.at c.loop-turn-test.false

@@ -5,4 +5,4 @@ use Rattle.text.proofs.source.Source.digits.Given as goal
 
 abbrev pub invariant-loop-turn : goal.invariant-loop-turn
 invariant-loop-turn l =
-    (run digits l.self.text.now l.initial.at ≡ run (digits_for (5 - l.-turn) l.number) l.self.text.now l.at) × (l.number ≤ 65535)
+    (run digits l.self.text.now l.initial.at ≡ run (digits_for (5 - l._turn) l.number) l.self.text.now l.at) × (l.number ≤ 65535)

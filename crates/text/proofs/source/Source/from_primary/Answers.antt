@@ -11,19 +11,19 @@ use Rattle.text.proofs.Exits.{stops_at, handed-on}
 use Rattle.text.proofs.Steps.{read_by, refused-by, chose, passed_over, regrouped}
 use Rattle.text.proofs.source.Source.from_primary.Goals as goal
 
-pub returns-in-err-raised : goal.returns-in-err-raised
+pub returns-in_err-raised : goal.returns-in_err-raised
 unfolding from_primary
-returns-in-err-raised c xs t begins held = refused-by _ _ c.from-residual.result _ _ (stops _ _ _ _ _ (c.in-err-raised.ensures xs t begins held)) c.from-residual.ensures.1
+returns-in_err-raised c xs t begins held = refused-by _ _ c.from_residual.result _ _ (stops _ _ _ _ _ (c.in_err-raised.ensures xs t begins held)) c.from_residual.ensures.1
 
-pub returns-in-err-times : goal.returns-in-err-times
+pub returns-in_err-times : goal.returns-in_err-times
 unfolding from_primary
-returns-in-err-times c xs t begins held =
-    let s = c.in-ok-raised.ensures xs t begins held in
-    refused-by _ _ c.from-residual-in-err-times.result _ _ (goes_on _ _ _ _ _ _ s.1 ∙ stops _ _ _ _ _ (c.in-err-times.ensures xs s.0 begins s.2)) c.from-residual-in-err-times.ensures.1
+returns-in_err-times c xs t begins held =
+    let s = c.in_ok-raised.ensures xs t begins held in
+    refused-by _ _ c.from_residual-in_err-times.result _ _ (goes_on _ _ _ _ _ _ s.1 ∙ stops _ _ _ _ _ (c.in_err-times.ensures xs s.0 begins s.2)) c.from_residual-in_err-times.ensures.1
 
 pub returns : goal.returns
 unfolding from_primary
 returns c xs t begins held =
-    let s = c.in-ok-raised.ensures xs t begins held in
-    let u = c.in-ok-times.ensures xs s.0 begins s.2 in
-    read_by _ _ _ c.from-product.result _ (goes_on _ _ _ _ _ _ s.1 ∙ goes_on _ _ _ _ _ _ u.1) (c.from-product.ensures xs u.0 begins u.2)
+    let s = c.in_ok-raised.ensures xs t begins held in
+    let u = c.in_ok-times.ensures xs s.0 begins s.2 in
+    read_by _ _ _ c.from_product.result _ (goes_on _ _ _ _ _ _ s.1 ∙ goes_on _ _ _ _ _ _ u.1) (c.from_product.ensures xs u.0 begins u.2)

@@ -11,12 +11,12 @@ use Rattle.text.proofs.Exits.{stops_at, handed-on}
 use Rattle.text.proofs.Steps.{read_by, refused-by, chose, passed_over, regrouped}
 use Rattle.text.proofs.source.Source.from_product.Goals as goal
 
-pub returns-in-err-plus : goal.returns-in-err-plus
+pub returns-in_err-plus : goal.returns-in_err-plus
 unfolding from_product
-returns-in-err-plus c xs t begins held = refused-by _ _ c.from-residual.result _ _ (stops _ _ _ _ _ (c.in-err-plus.ensures xs t begins held)) c.from-residual.ensures.1
+returns-in_err-plus c xs t begins held = refused-by _ _ c.from_residual.result _ _ (stops _ _ _ _ _ (c.in_err-plus.ensures xs t begins held)) c.from_residual.ensures.1
 
 pub returns : goal.returns
 unfolding from_product run
 returns c xs t begins held =
-    let s = c.in-ok-plus.ensures xs t begins held in
+    let s = c.in_ok-plus.ensures xs t begins held in
     read_by _ _ _ c.comparison.result _ (goes_on _ _ _ _ _ _ s.1) (c.comparison.ensures xs s.0.term begins s.2.1)

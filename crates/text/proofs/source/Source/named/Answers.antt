@@ -12,24 +12,24 @@ use Rattle.text.proofs.Sheets.{same-words}
 use Rattle.text.proofs.Steps.{chose, passed_over, regrouped}
 use Rattle.text.proofs.source.Source.named.Goals as goal
 
-pub returns-then-is-reserved : goal.returns-then-is-reserved
+pub returns-then-is_reserved : goal.returns-then-is_reserved
 unfolding named variable run
-returns-then-is-reserved c xs held = stops _ _ _ _ _ (chose _ _ _ _ _ (sym c.if-is-reserved.ensures))
+returns-then-is_reserved c xs held = stops _ _ _ _ _ (chose _ _ _ _ _ (sym c.if-is_reserved.ensures))
 
-pub returns-in-default : goal.returns-in-default
+pub returns-in_default : goal.returns-in_default
 unfolding named variable run
-returns-in-default c xs held =
-    stops _ _ _ _ _ (passed_over _ _ _ _ _ (sym c.if-is-reserved.ensures) ∙
-    ap (λ o. run (elim o [ None ↦ Refuse (Wrong c.args.word.length) | Some i ↦ blanks >> Give i ]) c.args.self.now.text.now c.args.at.now) (sym c.in-default.ensures.value))
+returns-in_default c xs held =
+    stops _ _ _ _ _ (passed_over _ _ _ _ _ (sym c.if-is_reserved.ensures) ∙
+    ap (λ o. run (elim o [ None ↦ Refuse (Wrong c.args.word.length) | Some i ↦ blanks >> Give i ]) c.args.self.now.text.now c.args.at.now) (sym c.in_default.ensures.value))
 
-pub overflow-cast-i : goal.overflow-cast-i
-overflow-cast-i c = search rules
+pub overflow_cast-i : goal.overflow_cast-i
+overflow_cast-i c = search rules
 
 pub returns : goal.returns
 unfolding named variable run term_words
 returns c xs held = (
   Var c.in-Some.i,
-  goes_on _ _ _ _ _ _ (passed_over _ _ _ _ _ (sym c.if-is-reserved.ensures) ∙
+  goes_on _ _ _ _ _ _ (passed_over _ _ _ _ _ (sym c.if-is_reserved.ensures) ∙
       ap (λ o. run (elim o [ None ↦ Refuse (Wrong c.args.word.length) | Some i ↦ blanks >> Give i ]) c.args.self.now.text.now c.args.at.now) (sym c.in-Some.ensures.value) ∙
       goes_on _ _ _ _ _ _ c.blanks.ensures),
   let fits : SFits w64 (pos c.in-Some.i) = search rules in

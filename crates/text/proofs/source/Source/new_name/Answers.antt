@@ -8,19 +8,19 @@ use Rattle.text.proofs.Exits.{handed-on}
 use Rattle.text.proofs.Steps.{chose, passed_over}
 use Rattle.text.proofs.source.Source.new_name.Goals as goal
 
-pub returns-in-err-word : goal.returns-in-err-word
+pub returns-in_err-word : goal.returns-in_err-word
 unfolding new_name
-returns-in-err-word c = stops _ _ _ _ _ c.in-err-word.ensures ∙ handed-on c.from-residual.result _ _ c.from-residual.ensures.1
+returns-in_err-word c = stops _ _ _ _ _ c.in_err-word.ensures ∙ handed-on c.from_residual.result _ _ c.from_residual.ensures.1
 
-pub returns-then-is-reserved : goal.returns-then-is-reserved
+pub returns-then-is_reserved : goal.returns-then-is_reserved
 unfolding new_name run
-returns-then-is-reserved c = goes_on _ _ _ _ _ _ c.in-ok-word.ensures ∙ chose _ _ _ _ _ (sym c.if-is-reserved.ensures)
+returns-then-is_reserved c = goes_on _ _ _ _ _ _ c.in_ok-word.ensures ∙ chose _ _ _ _ _ (sym c.if-is_reserved.ensures)
 
 pub returns-in-Some : goal.returns-in-Some
 unfolding new_name run
-returns-in-Some c = goes_on _ _ _ _ _ _ c.in-ok-word.ensures ∙ passed_over _ _ _ _ _ (sym c.if-is-reserved.ensures) ∙ ap (λ o. run (elim o [ None ↦ blanks >> Give c.in-ok-word.word | Some i ↦ Refuse (Wrong c.in-ok-word.word.length) ]) c.args.self.now.text.now c.letters.new.at) (sym c.in-Some.ensures.value)
+returns-in-Some c = goes_on _ _ _ _ _ _ c.in_ok-word.ensures ∙ passed_over _ _ _ _ _ (sym c.if-is_reserved.ensures) ∙ ap (λ o. run (elim o [ None ↦ blanks >> Give c.in_ok-word.word | Some i ↦ Refuse (Wrong c.in_ok-word.word.length) ]) c.args.self.now.text.now c.letters.new.at) (sym c.in-Some.ensures.value)
 
 pub returns-in-None : goal.returns-in-None
 unfolding new_name run
 returns-in-None c =
-    goes_on _ _ _ _ _ _ c.in-ok-word.ensures ∙ passed_over _ _ _ _ _ (sym c.if-is-reserved.ensures) ∙ ap (λ o. run (elim o [ None ↦ blanks >> Give c.in-ok-word.word | Some i ↦ Refuse (Wrong c.in-ok-word.word.length) ]) c.args.self.now.text.now c.letters.new.at) (sym c.in-None.ensures.value) ∙ goes_on _ _ _ _ _ _ c.blanks.ensures
+    goes_on _ _ _ _ _ _ c.in_ok-word.ensures ∙ passed_over _ _ _ _ _ (sym c.if-is_reserved.ensures) ∙ ap (λ o. run (elim o [ None ↦ blanks >> Give c.in_ok-word.word | Some i ↦ Refuse (Wrong c.in_ok-word.word.length) ]) c.args.self.now.text.now c.letters.new.at) (sym c.in-None.ensures.value) ∙ goes_on _ _ _ _ _ _ c.blanks.ensures

@@ -11,14 +11,14 @@ use Rattle.text.proofs.Exits.{stops_at, handed-on}
 use Rattle.text.proofs.Steps.{read_by, refused-by, chose, passed_over, regrouped}
 use Rattle.text.proofs.source.Source.or_equal.Goals as goal
 
-pub returns-in-err-sign : goal.returns-in-err-sign
+pub returns-in_err-sign : goal.returns-in_err-sign
 unfolding or_equal run
-returns-in-err-sign c =
-    chose _ _ _ _ _ (eq-eqb _ 61 (sym c.front.ensures ∙ c.if-front-eq61.true)) ∙ stops _ _ _ _ _ c.in-err-sign.ensures ∙ handed-on c.from-residual.result _ _ c.from-residual.ensures.1
+returns-in_err-sign c =
+    chose _ _ _ _ _ (eq-eqb _ 61 (sym c.front.ensures ∙ c.if-front-eq61.true)) ∙ stops _ _ _ _ _ c.in_err-sign.ensures ∙ handed-on c.from_residual.result _ _ c.from_residual.ensures.1
 
 pub returns-then-front-eq61 : goal.returns-then-front-eq61
 unfolding or_equal run
-returns-then-front-eq61 c = chose _ _ _ _ _ (eq-eqb _ 61 (sym c.front.ensures ∙ c.if-front-eq61.true)) ∙ goes_on _ _ _ _ _ _ c.in-ok-sign.ensures
+returns-then-front-eq61 c = chose _ _ _ _ _ (eq-eqb _ 61 (sym c.front.ensures ∙ c.if-front-eq61.true)) ∙ goes_on _ _ _ _ _ _ c.in_ok-sign.ensures
 
 pub returns : goal.returns
 unfolding or_equal run

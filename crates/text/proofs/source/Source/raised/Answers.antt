@@ -14,17 +14,17 @@ unfolding raised run
 returns-then-front-ne94 c xs t begins held =
     (t, passed_over _ _ _ _ _ (ne_eqb _ 94 (λ e. c.if-front-ne94.true (c.front.ensures ∙ e))), held)
 
-pub returns-in-err-sign : goal.returns-in-err-sign
+pub returns-in_err-sign : goal.returns-in_err-sign
 unfolding raised run
-returns-in-err-sign c xs t begins held =
-    refused-by _ _ c.from-residual.result _ _ (chose _ _ _ _ _ (eq-eqb _ 94 (sym c.front.ensures ∙ c.if-front-ne94.false)) ∙ stops _ _ _ _ _ c.in-err-sign.ensures) c.from-residual.ensures.1
+returns-in_err-sign c xs t begins held =
+    refused-by _ _ c.from_residual.result _ _ (chose _ _ _ _ _ (eq-eqb _ 94 (sym c.front.ensures ∙ c.if-front-ne94.false)) ∙ stops _ _ _ _ _ c.in_err-sign.ensures) c.from_residual.ensures.1
 
 pub returns-then-digit-lt49 : goal.returns-then-digit-lt49
 unfolding raised run
 returns-then-digit-lt49 c xs t begins held =
     let no_power : (leb 49 c.front-digit.result && leb c.front-digit.result 56) ≡ false =
     elim c.then-digit-lt49.either [ inl h ↦ and_left _ _ (lt-leb 49 c.front-digit.result h) | inr h ↦ and_right _ _ (lt-leb c.front-digit.result 56 h.1) ] in
-    chose _ _ _ _ _ (eq-eqb _ 94 (sym c.front.ensures ∙ c.if-front-ne94.false)) ∙ goes_on _ _ _ _ _ _ c.in-ok-sign.ensures ∙
+    chose _ _ _ _ _ (eq-eqb _ 94 (sym c.front.ensures ∙ c.if-front-ne94.false)) ∙ goes_on _ _ _ _ _ _ c.in_ok-sign.ensures ∙
     passed_over _ _ _ _ _ (ap (λ d. leb 49 d && leb d 56) (sym c.front-digit.ensures) ∙ no_power)
 
 pub returns : goal.returns
@@ -33,7 +33,7 @@ returns c xs t begins held =
     let power-here : (leb 49 c.front-digit.result && leb c.front-digit.result 56) ≡ true =
     and_from _ _ (le-leb 49 c.front-digit.result c.if-digit-lt49.false) (le-leb c.front-digit.result 56 c.if-digit-gt56.false) in (
       power t (c.front-digit.result - 48),
-      chose _ _ _ _ _ (eq-eqb _ 94 (sym c.front.ensures ∙ c.if-front-ne94.false)) ∙ goes_on _ _ _ _ _ _ c.in-ok-sign.ensures ∙
+      chose _ _ _ _ _ (eq-eqb _ 94 (sym c.front.ensures ∙ c.if-front-ne94.false)) ∙ goes_on _ _ _ _ _ _ c.in_ok-sign.ensures ∙
           chose _ _ _ _ _ (ap (λ d. leb 49 d && leb d 56) (sym c.front-digit.ensures) ∙ power-here) ∙
           ap₂ (λ d n. run (blanks >> Give (power t (d - 48))) c.args.self.now.text.now n) (sym c.front-digit.ensures) (sym c.pass.ensures) ∙ goes_on _ _ _ _ _ _ c.blanks.ensures,
       c.raise.ensures xs t begins held,

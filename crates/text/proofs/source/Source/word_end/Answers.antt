@@ -6,12 +6,12 @@ use Rattle.grammar.specs.Tokens.{word_end}
 use Rattle.grammar.specs.declared.fault.Fault.TheVariants.{Unfit}
 use Rattle.text.proofs.source.Source.word_end.Goals as goal
 
-pub returns-then-is-letter : goal.returns-then-is-letter
+pub returns-then-is_letter : goal.returns-then-is_letter
 unfolding word_end run
-returns-then-is-letter c =
-    ap (λ b. run (cond b (Refuse Unfit) (Give tt)) c.args.self.now.text.now c.args.at) (ap is_letter (sym c.front.ensures) ∙ sym c.if-is-letter.ensures)
+returns-then-is_letter c =
+    ap (λ b. run (cond b (Refuse Unfit) (Give tt)) c.args.self.now.text.now c.args.at) (ap is_letter (sym c.front.ensures) ∙ sym c.if-is_letter.ensures)
 
-pub returns-else-is-letter : goal.returns-else-is-letter
+pub returns-else-is_letter : goal.returns-else-is_letter
 unfolding word_end run
-returns-else-is-letter c =
-    ap (λ b. run (cond b (Refuse Unfit) (Give tt)) c.args.self.now.text.now c.args.at) (ap is_letter (sym c.front.ensures) ∙ sym c.if-is-letter.ensures)
+returns-else-is_letter c =
+    ap (λ b. run (cond b (Refuse Unfit) (Give tt)) c.args.self.now.text.now c.args.at) (ap is_letter (sym c.front.ensures) ∙ sym c.if-is_letter.ensures)
