@@ -1,21 +1,9 @@
 -- Where a name stands in a list, one by one.
-use Rattle.std.proofs.Common.{◌≡◌, ℕ, suc, ◌+◌, ◌<◌, ◌≤◌, Bool, true, false, cond, List, ◌∷◌, length, get_or, drop, Some, None, Decides, Option, sym, refl, ap, ◌∙◌, add-one, arith, drop-cons}
-use Rattle.std.proofs.lemmas.Slice.Eq.{slice_eq-Decides, bytes_eq-Decides}
-use Rattle.std.specs.Cmp.Lexicographic.{Matches}
+use Rattle.std.proofs.Common.{◌≡◌, ℕ, suc, ◌+◌, ◌<◌, ◌≤◌, Bool, true, false, cond, List, ◌∷◌, length, get_or, drop, Some, None, Option, sym, refl, ap, ◌∙◌, add-one, arith, drop-cons}
 use Rattle.std.specs.Str.{bytes_eq}
 use Rattle.grammar.specs.declared.word.Word.{Word}
 use Rattle.grammar.specs.Tokens.{position}
 use Rattle.text.specs.Outcome.{later_by}
-use Rattle.std.proofs.lemmas.Bool.Decides.{Decides-eqb}
-
--- what decides whether two texts are equal is the test of their bytes
-pub same_test : (xs ys : List ℕ) (b r : Bool) → Matches (λ (x y : ℕ) (t : Bool). Decides t (x ≡ y)) xs ys r → r ≡ b → bytes_eq xs ys ≡ b
-same_test xs ys true r m e = (bytes_eq-Decides xs ys).1 ((slice_eq-Decides Decides-eqb xs ys r m).0 e)
-same_test xs ys false r m e = go (bytes_eq xs ys) refl
-  where
-    go : (t : Bool) → bytes_eq xs ys ≡ t → bytes_eq xs ys ≡ false
-    go true h = let yes-too : r ≡ true = (slice_eq-Decides Decides-eqb xs ys r m).1 ((bytes_eq-Decides xs ys).0 h) in cc
-    go false h = h
 
 pub found_here : (names : List Word) (w d : Word) (i : ℕ) → i < length names → bytes_eq (get_or names i d).letters w.letters ≡ true → later_by i (position (drop i names) w) ≡ Some i
 unfolding position

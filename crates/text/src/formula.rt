@@ -107,7 +107,7 @@ impl Source<'_> {
     }
 
     // What `not` denies.
-    #[cycle(and_next_arrow_next_atom_chained_conjoined_conjunction_denied_disjoined_disjunction_enclosed_equated_equivalence_from_word_implication_or_next_same_next)]
+    #[cycle(formula_levels)]
     fn denied(&self, at: &mut usize, sheet: &mut Sheet, depth: usize) -> Result<Piece, Fault>
         ensures { WritesPiece (run (denied (nest self.now.names.now depth)) self.now.text.now at.old) result at.new sheet.old sheet.new }
     {
@@ -123,7 +123,7 @@ impl Source<'_> {
     }
 
     // `not` with what it denies, or a name.
-    #[cycle(and_next_arrow_next_atom_chained_conjoined_conjunction_denied_disjoined_disjunction_enclosed_equated_equivalence_from_word_implication_or_next_same_next)]
+    #[cycle(formula_levels)]
     fn from_word(
         &self,
         at: &mut usize,
@@ -142,7 +142,7 @@ impl Source<'_> {
     }
 
     // A formula in parentheses, or a term that begins with one.
-    #[cycle(and_next_arrow_next_atom_chained_conjoined_conjunction_denied_disjoined_disjunction_enclosed_equated_equivalence_from_word_implication_or_next_same_next)]
+    #[cycle(formula_levels)]
     fn enclosed(&self, at: &mut usize, sheet: &mut Sheet, depth: usize) -> Result<Piece, Fault>
         ensures { WritesPiece (run (enclosed self.now.names.now (nest self.now.names.now depth)) self.now.text.now at.old) result at.new sheet.old sheet.new }
     {
@@ -160,7 +160,7 @@ impl Source<'_> {
     }
 
     // What `and` joins, or a term.
-    #[cycle(and_next_arrow_next_atom_chained_conjoined_conjunction_denied_disjoined_disjunction_enclosed_equated_equivalence_from_word_implication_or_next_same_next)]
+    #[cycle(formula_levels)]
     pub fn atom(&self, at: &mut usize, sheet: &mut Sheet, depth: usize) -> Result<Piece, Fault>
         ensures { WritesPiece (run (atom_of self.now.names.now (nest self.now.names.now depth) (slice_index self.now.text.now at.old)) self.now.text.now at.old) result at.new sheet.old sheet.new }
     {
@@ -182,7 +182,7 @@ impl Source<'_> {
     }
 
     // A formula more, behind `and`.
-    #[cycle(and_next_arrow_next_atom_chained_conjoined_conjunction_denied_disjoined_disjunction_enclosed_equated_equivalence_from_word_implication_or_next_same_next)]
+    #[cycle(formula_levels)]
     fn and_next(
         &self,
         at: &mut usize,
@@ -200,7 +200,7 @@ impl Source<'_> {
     }
 
     // The formulas behind a first one, joined by `and`.
-    #[cycle(and_next_arrow_next_atom_chained_conjoined_conjunction_denied_disjoined_disjunction_enclosed_equated_equivalence_from_word_implication_or_next_same_next)]
+    #[cycle(formula_levels)]
     fn conjoined(
         &self,
         at: &mut usize,
@@ -220,7 +220,7 @@ impl Source<'_> {
         Ok(arrow)
     }
 
-    #[cycle(and_next_arrow_next_atom_chained_conjoined_conjunction_denied_disjoined_disjunction_enclosed_equated_equivalence_from_word_implication_or_next_same_next)]
+    #[cycle(formula_levels)]
     pub fn conjunction(
         &self,
         at: &mut usize,
@@ -240,7 +240,7 @@ impl Source<'_> {
     }
 
     // A formula more, behind `or`.
-    #[cycle(and_next_arrow_next_atom_chained_conjoined_conjunction_denied_disjoined_disjunction_enclosed_equated_equivalence_from_word_implication_or_next_same_next)]
+    #[cycle(formula_levels)]
     fn or_next(
         &self,
         at: &mut usize,
@@ -258,7 +258,7 @@ impl Source<'_> {
     }
 
     // The formulas behind a first one, joined by `or`.
-    #[cycle(and_next_arrow_next_atom_chained_conjoined_conjunction_denied_disjoined_disjunction_enclosed_equated_equivalence_from_word_implication_or_next_same_next)]
+    #[cycle(formula_levels)]
     fn disjoined(
         &self,
         at: &mut usize,
@@ -278,7 +278,7 @@ impl Source<'_> {
         Ok(arrow)
     }
 
-    #[cycle(and_next_arrow_next_atom_chained_conjoined_conjunction_denied_disjoined_disjunction_enclosed_equated_equivalence_from_word_implication_or_next_same_next)]
+    #[cycle(formula_levels)]
     pub fn disjunction(
         &self,
         at: &mut usize,
@@ -308,7 +308,7 @@ impl Source<'_> {
     }
 
     // A formula more, behind an arrow.
-    #[cycle(and_next_arrow_next_atom_chained_conjoined_conjunction_denied_disjoined_disjunction_enclosed_equated_equivalence_from_word_implication_or_next_same_next)]
+    #[cycle(formula_levels)]
     fn arrow_next(
         &self,
         at: &mut usize,
@@ -325,7 +325,7 @@ impl Source<'_> {
     }
 
     // The formulas behind a first one, joined by arrows.
-    #[cycle(and_next_arrow_next_atom_chained_conjoined_conjunction_denied_disjoined_disjunction_enclosed_equated_equivalence_from_word_implication_or_next_same_next)]
+    #[cycle(formula_levels)]
     fn chained(
         &self,
         at: &mut usize,
@@ -347,7 +347,7 @@ impl Source<'_> {
         Ok(())
     }
 
-    #[cycle(and_next_arrow_next_atom_chained_conjoined_conjunction_denied_disjoined_disjunction_enclosed_equated_equivalence_from_word_implication_or_next_same_next)]
+    #[cycle(formula_levels)]
     pub fn implication(
         &self,
         at: &mut usize,
@@ -367,7 +367,7 @@ impl Source<'_> {
     }
 
     // A formula more, behind `<->`.
-    #[cycle(and_next_arrow_next_atom_chained_conjoined_conjunction_denied_disjoined_disjunction_enclosed_equated_equivalence_from_word_implication_or_next_same_next)]
+    #[cycle(formula_levels)]
     fn same_next(
         &self,
         at: &mut usize,
@@ -386,7 +386,7 @@ impl Source<'_> {
     }
 
     // The formulas behind a first one, joined by `<->`.
-    #[cycle(and_next_arrow_next_atom_chained_conjoined_conjunction_denied_disjoined_disjunction_enclosed_equated_equivalence_from_word_implication_or_next_same_next)]
+    #[cycle(formula_levels)]
     fn equated(
         &self,
         at: &mut usize,
@@ -406,7 +406,7 @@ impl Source<'_> {
         Ok(arrow)
     }
 
-    #[cycle(and_next_arrow_next_atom_chained_conjoined_conjunction_denied_disjoined_disjunction_enclosed_equated_equivalence_from_word_implication_or_next_same_next)]
+    #[cycle(formula_levels)]
     pub fn equivalence(
         &self,
         at: &mut usize,

@@ -49,7 +49,7 @@ impl Source<'_> {
     }
 
     // A sum in parentheses.
-    #[cycle(added_factor_group_leading_negated_plus_plus_next_primary_product_sum_taken_times_times_next)]
+    #[cycle(term_levels)]
     fn group(&self, at: &mut usize, sheet: &mut Sheet, depth: usize) -> Result<(), Fault>
         ensures { WritesTerm (run (grouped (nest self.now.names.now depth)) self.now.text.now at.old) result at.new sheet.old sheet.new }
     {
@@ -62,7 +62,7 @@ impl Source<'_> {
     }
 
     // A name, a number, or a sum in parentheses.
-    #[cycle(added_factor_group_leading_negated_plus_plus_next_primary_product_sum_taken_times_times_next)]
+    #[cycle(term_levels)]
     pub fn primary(&self, at: &mut usize, sheet: &mut Sheet, depth: usize) -> Result<(), Fault>
         ensures { WritesTerm (run (primary_of self.now.names.now (nest self.now.names.now depth) (slice_index self.now.text.now at.old)) self.now.text.now at.old) result at.new sheet.old sheet.new }
     {
@@ -80,7 +80,7 @@ impl Source<'_> {
         self.group(at, sheet, depth)
     }
 
-    #[cycle(added_factor_group_leading_negated_plus_plus_next_primary_product_sum_taken_times_times_next)]
+    #[cycle(term_levels)]
     pub fn factor(&self, at: &mut usize, sheet: &mut Sheet, depth: usize) -> Result<(), Fault>
         ensures { WritesTerm (run (factor self.now.names.now (nest self.now.names.now depth)) self.now.text.now at.old) result at.new sheet.old sheet.new }
     {
@@ -108,7 +108,7 @@ impl Source<'_> {
     }
 
     // A factor more.
-    #[cycle(added_factor_group_leading_negated_plus_plus_next_primary_product_sum_taken_times_times_next)]
+    #[cycle(term_levels)]
     fn times_next(
         &self,
         at: &mut usize,
@@ -125,7 +125,7 @@ impl Source<'_> {
     }
 
     // The factors behind a first one.
-    #[cycle(added_factor_group_leading_negated_plus_plus_next_primary_product_sum_taken_times_times_next)]
+    #[cycle(term_levels)]
     pub fn times(
         &self,
         at: &mut usize,
@@ -144,7 +144,7 @@ impl Source<'_> {
         Ok(())
     }
 
-    #[cycle(added_factor_group_leading_negated_plus_plus_next_primary_product_sum_taken_times_times_next)]
+    #[cycle(term_levels)]
     pub fn product(&self, at: &mut usize, sheet: &mut Sheet, depth: usize) -> Result<(), Fault>
         ensures { WritesTerm (run (product self.now.names.now (nest self.now.names.now depth)) self.now.text.now at.old) result at.new sheet.old sheet.new }
     {
@@ -154,7 +154,7 @@ impl Source<'_> {
     }
 
     // What is taken away, behind a minus.
-    #[cycle(added_factor_group_leading_negated_plus_plus_next_primary_product_sum_taken_times_times_next)]
+    #[cycle(term_levels)]
     fn taken(
         &self,
         at: &mut usize,
@@ -173,7 +173,7 @@ impl Source<'_> {
     }
 
     // What is added.
-    #[cycle(added_factor_group_leading_negated_plus_plus_next_primary_product_sum_taken_times_times_next)]
+    #[cycle(term_levels)]
     fn added(
         &self,
         at: &mut usize,
@@ -190,7 +190,7 @@ impl Source<'_> {
     }
 
     // A summand more, or the arrow that ends the sum.
-    #[cycle(added_factor_group_leading_negated_plus_plus_next_primary_product_sum_taken_times_times_next)]
+    #[cycle(term_levels)]
     fn plus_next(
         &self,
         at: &mut usize,
@@ -213,7 +213,7 @@ impl Source<'_> {
     }
 
     // The summands behind a first one.
-    #[cycle(added_factor_group_leading_negated_plus_plus_next_primary_product_sum_taken_times_times_next)]
+    #[cycle(term_levels)]
     pub fn plus(
         &self,
         at: &mut usize,
@@ -237,7 +237,7 @@ impl Source<'_> {
     }
 
     // A minus in front of a product.
-    #[cycle(added_factor_group_leading_negated_plus_plus_next_primary_product_sum_taken_times_times_next)]
+    #[cycle(term_levels)]
     pub fn negated(&self, at: &mut usize, sheet: &mut Sheet, depth: usize) -> Result<(), Fault>
         ensures { WritesTerm (run (negated (nest self.now.names.now depth)) self.now.text.now at.old) result at.new sheet.old sheet.new }
     {
@@ -252,7 +252,7 @@ impl Source<'_> {
     }
 
     // A first product, perhaps with a minus in front.
-    #[cycle(added_factor_group_leading_negated_plus_plus_next_primary_product_sum_taken_times_times_next)]
+    #[cycle(term_levels)]
     fn leading(&self, at: &mut usize, sheet: &mut Sheet, depth: usize) -> Result<(), Fault>
         ensures { WritesTerm (run (leading_of self.now.names.now (nest self.now.names.now depth) (slice_index self.now.text.now at.old)) self.now.text.now at.old) result at.new sheet.old sheet.new }
     {
@@ -263,7 +263,7 @@ impl Source<'_> {
         }
     }
 
-    #[cycle(added_factor_group_leading_negated_plus_plus_next_primary_product_sum_taken_times_times_next)]
+    #[cycle(term_levels)]
     pub fn sum(
         &self,
         at: &mut usize,

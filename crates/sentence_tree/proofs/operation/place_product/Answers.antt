@@ -11,23 +11,23 @@ use Rattle.sentence_tree.specs.Operands.{span, Joins}
 use Rattle.sentence_tree.proofs.Joined.{joins-both, joins-none}
 use Rattle.sentence_tree.proofs.operation.place_product.Goals as goal
 
-pub returns-in-default : goal.returns-in-default
-returns-in-default c =
+pub returns-in_default : goal.returns-in_default
+returns-in_default c =
     let cells = c.args.arena.now.cells.now in
     let fits : c.args.operands.mark ≤ length cells = omega (arith, c.requires.ready.room) in
     record {
       placed = subst₂ (λ t cs. Joins product c.args.operands None c.args.arena.now.top cells t cs) (sym c.release.ensures.top) (sym c.release.ensures.cells)
-          (joins-none mul_terms product denoting-laws.product-checks c.args.operands c.args.arena.now.top cells fits (inl c.in-default.is));
+          (joins-none mul_terms product denoting-laws.product-checks c.args.operands c.args.arena.now.top cells fits (inl c.in_default.is));
       lent = search rules;
     }
 
-pub returns-in-default-right : goal.returns-in-default-right
-returns-in-default-right c =
+pub returns-in_default-right : goal.returns-in_default-right
+returns-in_default-right c =
     let cells = c.args.arena.now.cells.now in
     let fits : c.args.operands.mark ≤ length cells = omega (arith, c.requires.ready.room) in
     record {
-      placed = subst₂ (λ t cs. Joins product c.args.operands None c.args.arena.now.top cells t cs) (sym c.release-in-default-right.ensures.top) (sym c.release-in-default-right.ensures.cells)
-          (joins-none mul_terms product denoting-laws.product-checks c.args.operands c.args.arena.now.top cells fits (inr c.in-default-right.is));
+      placed = subst₂ (λ t cs. Joins product c.args.operands None c.args.arena.now.top cells t cs) (sym c.release-in_default-right.ensures.top) (sym c.release-in_default-right.ensures.cells)
+          (joins-none mul_terms product denoting-laws.product-checks c.args.operands c.args.arena.now.top cells fits (inr c.in_default-right.is));
       lent = search rules;
     }
 

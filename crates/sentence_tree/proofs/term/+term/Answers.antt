@@ -18,210 +18,210 @@ returns-then-depth-eq0 t c = record {
   lent = refl;
 }
 
-pub returns-in-err-kind : goal.returns-in-err-kind
-returns-in-err-kind t c =
+pub returns-in_err-kind : goal.returns-in_err-kind
+returns-in_err-kind t c =
     let n = c.args.variables in
     let words = c.args.reader.now.rest.now in
-    let refused = term-open c.args.depth n words c.if-depth-eq0.false ∙ ap (λ m. then m (term_by n (term_at (c.args.depth - 1) n))) (sym c.in-err-kind.ensures) in
+    let refused = term-open c.args.depth n words c.if-depth-eq0.false ∙ ap (λ m. then m (term_by n (term_at (c.args.depth - 1) n))) (sym c.in_err-kind.ensures) in
     record {
-      read = evaluates-refused _ _ _ _ _ _ _ refused c.from-residual.result c.from-residual.ensures.0;
+      read = evaluates-refused _ _ _ _ _ _ _ refused c.from_residual.result c.from_residual.ensures.0;
       lent = search rules;
     }
 
-pub returns-in-err-i : goal.returns-in-err-i
-returns-in-err-i t c =
+pub returns-in_err-i-in-Variable : goal.returns-in_err-i-in-Variable
+returns-in_err-i-in-Variable t c =
     let n = c.args.variables in
     let words = c.args.reader.now.rest.now in
-    let opened = term-of-kind c.args.depth n words c.kind.new.self.rest.now _ c.if-depth-eq0.false c.in-ok-kind.ensures in
-    let refused = opened ∙ ap (λ k. term_by n (term_at (c.args.depth - 1) n) k c.kind.new.self.rest.now) c.in-Variable.is ∙ ap (mapped Var) (sym c.in-err-i.ensures) in
+    let opened = term-of-kind c.args.depth n words c.kind.new.self.rest.now _ c.if-depth-eq0.false c.in_ok-kind.ensures in
+    let refused = opened ∙ ap (λ k. term_by n (term_at (c.args.depth - 1) n) k c.kind.new.self.rest.now) c.in-Variable.is ∙ ap (mapped Var) (sym c.in_err-i-in-Variable.ensures) in
     record {
-      read = evaluates-refused _ _ _ _ _ _ _ refused c.from-residual-in-err-i.result c.from-residual-in-err-i.ensures.0;
+      read = evaluates-refused _ _ _ _ _ _ _ refused c.from_residual-in_err-i-in-Variable.result c.from_residual-in_err-i-in-Variable.ensures.0;
       lent = search rules;
     }
 
-pub returns-in-ok-i : goal.returns-in-ok-i
+pub returns-in_ok-i-in-Variable : goal.returns-in_ok-i-in-Variable
 unfolding term_poly
-returns-in-ok-i t c =
+returns-in_ok-i-in-Variable t c =
     let n = c.args.variables in
     let words = c.args.reader.now.rest.now in
-    let opened = term-of-kind c.args.depth n words c.kind.new.self.rest.now _ c.if-depth-eq0.false c.in-ok-kind.ensures in
-    let read = opened ∙ ap (λ k. term_by n (term_at (c.args.depth - 1) n) k c.kind.new.self.rest.now) c.in-Variable.is ∙ ap (mapped Var) (sym c.in-ok-i.ensures) in
+    let opened = term-of-kind c.args.depth n words c.kind.new.self.rest.now _ c.if-depth-eq0.false c.in_ok-kind.ensures in
+    let read = opened ∙ ap (λ k. term_by n (term_at (c.args.depth - 1) n) k c.kind.new.self.rest.now) c.in-Variable.is ∙ ap (mapped Var) (sym c.in_ok-i-in-Variable.ensures) in
     record {
-      read = evaluates-read _ _ _ _ _ _ _ _ _ read c.place-variable.ensures.placed;
-      lent = c.place-variable.ensures.lent;
+      read = evaluates-read _ _ _ _ _ _ _ _ _ read c.place_variable.ensures.placed;
+      lent = c.place_variable.ensures.lent;
     }
 
-pub returns-in-err-number : goal.returns-in-err-number
-returns-in-err-number t c =
+pub returns-in_err-number-in-Number : goal.returns-in_err-number-in-Number
+returns-in_err-number-in-Number t c =
     let n = c.args.variables in
     let words = c.args.reader.now.rest.now in
-    let opened = term-of-kind c.args.depth n words c.kind.new.self.rest.now _ c.if-depth-eq0.false c.in-ok-kind.ensures in
-    let refused = opened ∙ ap (λ k. term_by n (term_at (c.args.depth - 1) n) k c.kind.new.self.rest.now) c.in-Number.is ∙ ap (mapped Num) (sym c.in-err-number.ensures) in
+    let opened = term-of-kind c.args.depth n words c.kind.new.self.rest.now _ c.if-depth-eq0.false c.in_ok-kind.ensures in
+    let refused = opened ∙ ap (λ k. term_by n (term_at (c.args.depth - 1) n) k c.kind.new.self.rest.now) c.in-Number.is ∙ ap (mapped Num) (sym c.in_err-number-in-Number.ensures) in
     record {
-      read = evaluates-refused _ _ _ _ _ _ _ refused c.from-residual-in-err-number.result c.from-residual-in-err-number.ensures.0;
+      read = evaluates-refused _ _ _ _ _ _ _ refused c.from_residual-in_err-number-in-Number.result c.from_residual-in_err-number-in-Number.ensures.0;
       lent = search rules;
     }
 
-pub returns-in-ok-number : goal.returns-in-ok-number
+pub returns-in_ok-number-in-Number : goal.returns-in_ok-number-in-Number
 unfolding term_poly
-returns-in-ok-number t c =
+returns-in_ok-number-in-Number t c =
     let n = c.args.variables in
     let words = c.args.reader.now.rest.now in
-    let opened = term-of-kind c.args.depth n words c.kind.new.self.rest.now _ c.if-depth-eq0.false c.in-ok-kind.ensures in
-    let fits : SFits w64 c.in-ok-number.number = search rules in
-    let read = opened ∙ ap (λ k. term_by n (term_at (c.args.depth - 1) n) k c.kind.new.self.rest.now) c.in-Number.is ∙ ap (mapped Num) (sym c.in-ok-number.ensures) in
+    let opened = term-of-kind c.args.depth n words c.kind.new.self.rest.now _ c.if-depth-eq0.false c.in_ok-kind.ensures in
+    let fits : SFits w64 c.in_ok-number-in-Number.number = search rules in
+    let read = opened ∙ ap (λ k. term_by n (term_at (c.args.depth - 1) n) k c.kind.new.self.rest.now) c.in-Number.is ∙ ap (mapped Num) (sym c.in_ok-number-in-Number.ensures) in
     record {
-      read = evaluates-read _ _ _ _ _ _ _ _ _ read (subst (λ z. Placed n (checked n (constant n z)) c.place-number.result c.args.arena.now.top c.args.arena.now.cells.now c.place-number.new.arena.top c.place-number.new.arena.cells.now) (to_z-of_z w64 c.in-ok-number.number fits) c.place-number.ensures.placed);
-      lent = c.place-number.ensures.lent;
+      read = evaluates-read _ _ _ _ _ _ _ _ _ read (subst (λ z. Placed n (checked n (constant n z)) c.place_number.result c.args.arena.now.top c.args.arena.now.cells.now c.place_number.new.arena.top c.place_number.new.arena.cells.now) (to_z-of_z w64 c.in_ok-number-in-Number.number fits) c.place_number.ensures.placed);
+      lent = c.place_number.ensures.lent;
     }
 
-pub returns-in-err-left : goal.returns-in-err-left
-returns-in-err-left t c =
+pub returns-in_err-left-in-Sum : goal.returns-in_err-left-in-Sum
+returns-in_err-left-in-Sum t c =
     let n = c.args.variables in
     let words = c.args.reader.now.rest.now in
     let rest = c.kind.new.self.rest.now in
     let go = term_at (c.args.depth - 1) n in
-    let opened = term-of-kind c.args.depth n words rest _ c.if-depth-eq0.false c.in-ok-kind.ensures ∙ ap (λ k. term_by n go k rest) c.in-Sum.is in
+    let opened = term-of-kind c.args.depth n words rest _ c.if-depth-eq0.false c.in_ok-kind.ensures ∙ ap (λ k. term_by n go k rest) c.in-Sum.is in
     let base = c.args.arena.now.cells.now in
-    let none = evaluated-err n (go rest) _ _ _ _ _ c.in-err-left.field-0.0 c.in-err-left.ensures.read in
+    let none = evaluated-err n (go rest) _ _ _ _ _ c.in_err-left-in-Sum.field-0.0 c.in_err-left-in-Sum.ensures.read in
     record {
-      read = evaluates-refused _ _ _ _ _ _ _ (opened ∙ two-refused-left Sum go rest none) c.from-residual-in-err-left.result c.from-residual-in-err-left.ensures.0;
+      read = evaluates-refused _ _ _ _ _ _ _ (opened ∙ two-refused-left Sum go rest none) c.from_residual-in_err-left-in-Sum.result c.from_residual-in_err-left-in-Sum.ensures.0;
       lent = search rules;
     }
 
-pub returns-in-err-right : goal.returns-in-err-right
-returns-in-err-right t c =
+pub returns-in_err-right-in-Sum : goal.returns-in_err-right-in-Sum
+returns-in_err-right-in-Sum t c =
     let n = c.args.variables in
     let words = c.args.reader.now.rest.now in
     let rest = c.kind.new.self.rest.now in
     let go = term_at (c.args.depth - 1) n in
-    let opened = term-of-kind c.args.depth n words rest _ c.if-depth-eq0.false c.in-ok-kind.ensures ∙ ap (λ k. term_by n go k rest) c.in-Sum.is in
+    let opened = term-of-kind c.args.depth n words rest _ c.if-depth-eq0.false c.in_ok-kind.ensures ∙ ap (λ k. term_by n go k rest) c.in-Sum.is in
     let base = c.args.arena.now.cells.now in
     let middle = c.term.new.arena.top in
     let between = c.term.new.arena.cells.now in
     let first = c.term.new.reader.rest.now in
-    let a = evaluated-ok n (go rest) first c.args.arena.now.top base middle between c.in-ok-left.left c.in-ok-left.ensures.read in
-    let none = evaluated-err n (go first) _ _ _ _ _ c.in-err-right.field-0.0 c.in-err-right.ensures.read in
+    let a = evaluated-ok n (go rest) first c.args.arena.now.top base middle between c.in_ok-left-in-Sum.left c.in_ok-left-in-Sum.ensures.read in
+    let none = evaluated-err n (go first) _ _ _ _ _ c.in_err-right-in-Sum.field-0.0 c.in_err-right-in-Sum.ensures.read in
     record {
-      read = evaluates-refused _ _ _ _ _ _ _ (opened ∙ two-refused-right Sum go rest first a.0 a.1 none) c.from-residual-in-err-right.result c.from-residual-in-err-right.ensures.0;
+      read = evaluates-refused _ _ _ _ _ _ _ (opened ∙ two-refused-right Sum go rest first a.0 a.1 none) c.from_residual-in_err-right-in-Sum.result c.from_residual-in_err-right-in-Sum.ensures.0;
       lent = search rules;
     }
 
-pub place-sum-requires : goal.place-sum-requires
-place-sum-requires t c =
+pub place_sum-requires : goal.place_sum-requires
+place_sum-requires t c =
     let n = c.args.variables in
     let words = c.args.reader.now.rest.now in
     let rest = c.kind.new.self.rest.now in
     let go = term_at (c.args.depth - 1) n in
-    let opened = term-of-kind c.args.depth n words rest _ c.if-depth-eq0.false c.in-ok-kind.ensures ∙ ap (λ k. term_by n go k rest) c.in-Sum.is in
+    let opened = term-of-kind c.args.depth n words rest _ c.if-depth-eq0.false c.in_ok-kind.ensures ∙ ap (λ k. term_by n go k rest) c.in-Sum.is in
     let base = c.args.arena.now.cells.now in
     let middle = c.term.new.arena.top in
     let between = c.term.new.arena.cells.now in
     let first = c.term.new.reader.rest.now in
-    let a = evaluated-ok n (go rest) first c.args.arena.now.top base middle between c.in-ok-left.left c.in-ok-left.ensures.read in
+    let a = evaluated-ok n (go rest) first c.args.arena.now.top base middle between c.in_ok-left-in-Sum.left c.in_ok-left-in-Sum.ensures.read in
     let second = c.term-in-Sum.new.reader.rest.now in
-    let b = evaluated-ok n (go first) second middle between c.term-in-Sum.new.arena.top c.term-in-Sum.new.arena.cells.now c.in-ok-right.right c.in-ok-right.ensures.read in
-    let left = c.in-ok-left.left in
+    let b = evaluated-ok n (go first) second middle between c.term-in-Sum.new.arena.top c.term-in-Sum.new.arena.cells.now c.in_ok-right-in-Sum.right c.in_ok-right-in-Sum.ensures.read in
+    let left = c.in_ok-left-in-Sum.left in
     let lies : Placed n (term_poly n a.0) left c.top-mark.result base middle between = subst (λ m. Placed n (term_poly n a.0) left m base middle between) (sym c.top-mark.ensures) a.2 in
     let room : c.top-mark.result + 64 ≤ length base = omega (arith, c.requires.room, c.top-mark.ensures) in
-    record { ready = ready n (term_poly n a.0) (term_poly n b.0) (record { mark = c.top-mark.result; left = left; right = c.in-ok-right.right }) base middle between c.term-in-Sum.new.arena.top c.term-in-Sum.new.arena.cells.now room lies b.2 }
+    record { ready = ready n (term_poly n a.0) (term_poly n b.0) (record { mark = c.top-mark.result; left = left; right = c.in_ok-right-in-Sum.right }) base middle between c.term-in-Sum.new.arena.top c.term-in-Sum.new.arena.cells.now room lies b.2 }
 
-pub returns-in-ok-right : goal.returns-in-ok-right
+pub returns-in_ok-right-in-Sum : goal.returns-in_ok-right-in-Sum
 unfolding term_poly
-returns-in-ok-right t c =
+returns-in_ok-right-in-Sum t c =
     let n = c.args.variables in
     let words = c.args.reader.now.rest.now in
     let rest = c.kind.new.self.rest.now in
     let go = term_at (c.args.depth - 1) n in
-    let opened = term-of-kind c.args.depth n words rest _ c.if-depth-eq0.false c.in-ok-kind.ensures ∙ ap (λ k. term_by n go k rest) c.in-Sum.is in
+    let opened = term-of-kind c.args.depth n words rest _ c.if-depth-eq0.false c.in_ok-kind.ensures ∙ ap (λ k. term_by n go k rest) c.in-Sum.is in
     let base = c.args.arena.now.cells.now in
     let middle = c.term.new.arena.top in
     let between = c.term.new.arena.cells.now in
     let first = c.term.new.reader.rest.now in
-    let a = evaluated-ok n (go rest) first c.args.arena.now.top base middle between c.in-ok-left.left c.in-ok-left.ensures.read in
+    let a = evaluated-ok n (go rest) first c.args.arena.now.top base middle between c.in_ok-left-in-Sum.left c.in_ok-left-in-Sum.ensures.read in
     let second = c.term-in-Sum.new.reader.rest.now in
-    let b = evaluated-ok n (go first) second middle between c.term-in-Sum.new.arena.top c.term-in-Sum.new.arena.cells.now c.in-ok-right.right c.in-ok-right.ensures.read in
-    let left = c.in-ok-left.left in
+    let b = evaluated-ok n (go first) second middle between c.term-in-Sum.new.arena.top c.term-in-Sum.new.arena.cells.now c.in_ok-right-in-Sum.right c.in_ok-right-in-Sum.ensures.read in
+    let left = c.in_ok-left-in-Sum.left in
     let lies : Placed n (term_poly n a.0) left c.top-mark.result base middle between = subst (λ m. Placed n (term_poly n a.0) left m base middle between) (sym c.top-mark.ensures) a.2 in
-    let made = c.place-sum.ensures.placed n (term_poly n a.0) (term_poly n b.0) base middle between c.requires.few lies b.2 in
+    let made = c.place_sum.ensures.placed n (term_poly n a.0) (term_poly n b.0) base middle between c.requires.few lies b.2 in
     record {
       read = evaluates-read _ _ _ _ _ _ _ (Sum a.0 b.0) _ (opened ∙ two-read Sum go rest first second a.0 b.0 a.1 b.1)
-          (subst (λ m. Placed n (term_poly n (Sum a.0 b.0)) c.place-sum.result m base c.place-sum.new.arena.top c.place-sum.new.arena.cells.now) c.top-mark.ensures made);
+          (subst (λ m. Placed n (term_poly n (Sum a.0 b.0)) c.place_sum.result m base c.place_sum.new.arena.top c.place_sum.new.arena.cells.now) c.top-mark.ensures made);
       lent = search rules;
     }
 
-pub returns-in-err-left-2 : goal.returns-in-err-left-2
-returns-in-err-left-2 t c =
+pub returns-in_err-left-in-Product : goal.returns-in_err-left-in-Product
+returns-in_err-left-in-Product t c =
     let n = c.args.variables in
     let words = c.args.reader.now.rest.now in
     let rest = c.kind.new.self.rest.now in
     let go = term_at (c.args.depth - 1) n in
-    let opened = term-of-kind c.args.depth n words rest _ c.if-depth-eq0.false c.in-ok-kind.ensures ∙ ap (λ k. term_by n go k rest) c.in-Product.is in
+    let opened = term-of-kind c.args.depth n words rest _ c.if-depth-eq0.false c.in_ok-kind.ensures ∙ ap (λ k. term_by n go k rest) c.in-Product.is in
     let base = c.args.arena.now.cells.now in
-    let none = evaluated-err n (go rest) _ _ _ _ _ c.in-err-left-2.field-0.0 c.in-err-left-2.ensures.read in
+    let none = evaluated-err n (go rest) _ _ _ _ _ c.in_err-left-in-Product.field-0.0 c.in_err-left-in-Product.ensures.read in
     record {
-      read = evaluates-refused _ _ _ _ _ _ _ (opened ∙ two-refused-left Product go rest none) c.from-residual-in-err-left-2.result c.from-residual-in-err-left-2.ensures.0;
+      read = evaluates-refused _ _ _ _ _ _ _ (opened ∙ two-refused-left Product go rest none) c.from_residual-in_err-left-in-Product.result c.from_residual-in_err-left-in-Product.ensures.0;
       lent = search rules;
     }
 
-pub returns-in-err-right-2 : goal.returns-in-err-right-2
-returns-in-err-right-2 t c =
+pub returns-in_err-right-in-Product : goal.returns-in_err-right-in-Product
+returns-in_err-right-in-Product t c =
     let n = c.args.variables in
     let words = c.args.reader.now.rest.now in
     let rest = c.kind.new.self.rest.now in
     let go = term_at (c.args.depth - 1) n in
-    let opened = term-of-kind c.args.depth n words rest _ c.if-depth-eq0.false c.in-ok-kind.ensures ∙ ap (λ k. term_by n go k rest) c.in-Product.is in
+    let opened = term-of-kind c.args.depth n words rest _ c.if-depth-eq0.false c.in_ok-kind.ensures ∙ ap (λ k. term_by n go k rest) c.in-Product.is in
     let base = c.args.arena.now.cells.now in
     let middle = c.term-in-Product.new.arena.top in
     let between = c.term-in-Product.new.arena.cells.now in
     let first = c.term-in-Product.new.reader.rest.now in
-    let a = evaluated-ok n (go rest) first c.args.arena.now.top base middle between c.in-ok-left-2.left c.in-ok-left-2.ensures.read in
-    let none = evaluated-err n (go first) _ _ _ _ _ c.in-err-right-2.field-0.0 c.in-err-right-2.ensures.read in
+    let a = evaluated-ok n (go rest) first c.args.arena.now.top base middle between c.in_ok-left-in-Product.left c.in_ok-left-in-Product.ensures.read in
+    let none = evaluated-err n (go first) _ _ _ _ _ c.in_err-right-in-Product.field-0.0 c.in_err-right-in-Product.ensures.read in
     record {
-      read = evaluates-refused _ _ _ _ _ _ _ (opened ∙ two-refused-right Product go rest first a.0 a.1 none) c.from-residual-in-err-right-2.result c.from-residual-in-err-right-2.ensures.0;
+      read = evaluates-refused _ _ _ _ _ _ _ (opened ∙ two-refused-right Product go rest first a.0 a.1 none) c.from_residual-in_err-right-in-Product.result c.from_residual-in_err-right-in-Product.ensures.0;
       lent = search rules;
     }
 
-pub place-product-requires : goal.place-product-requires
-place-product-requires t c =
+pub place_product-requires : goal.place_product-requires
+place_product-requires t c =
     let n = c.args.variables in
     let words = c.args.reader.now.rest.now in
     let rest = c.kind.new.self.rest.now in
     let go = term_at (c.args.depth - 1) n in
-    let opened = term-of-kind c.args.depth n words rest _ c.if-depth-eq0.false c.in-ok-kind.ensures ∙ ap (λ k. term_by n go k rest) c.in-Product.is in
+    let opened = term-of-kind c.args.depth n words rest _ c.if-depth-eq0.false c.in_ok-kind.ensures ∙ ap (λ k. term_by n go k rest) c.in-Product.is in
     let base = c.args.arena.now.cells.now in
     let middle = c.term-in-Product.new.arena.top in
     let between = c.term-in-Product.new.arena.cells.now in
     let first = c.term-in-Product.new.reader.rest.now in
-    let a = evaluated-ok n (go rest) first c.args.arena.now.top base middle between c.in-ok-left-2.left c.in-ok-left-2.ensures.read in
+    let a = evaluated-ok n (go rest) first c.args.arena.now.top base middle between c.in_ok-left-in-Product.left c.in_ok-left-in-Product.ensures.read in
     let second = c.term-in-Product-2.new.reader.rest.now in
-    let b = evaluated-ok n (go first) second middle between c.term-in-Product-2.new.arena.top c.term-in-Product-2.new.arena.cells.now c.in-ok-right-2.right c.in-ok-right-2.ensures.read in
-    let left = c.in-ok-left-2.left in
+    let b = evaluated-ok n (go first) second middle between c.term-in-Product-2.new.arena.top c.term-in-Product-2.new.arena.cells.now c.in_ok-right-in-Product.right c.in_ok-right-in-Product.ensures.read in
+    let left = c.in_ok-left-in-Product.left in
     let lies : Placed n (term_poly n a.0) left c.top-mark-in-Product.result base middle between = subst (λ m. Placed n (term_poly n a.0) left m base middle between) (sym c.top-mark-in-Product.ensures) a.2 in
     let room : c.top-mark-in-Product.result + 64 ≤ length base = omega (arith, c.requires.room, c.top-mark-in-Product.ensures) in
-    record { ready = ready n (term_poly n a.0) (term_poly n b.0) (record { mark = c.top-mark-in-Product.result; left = left; right = c.in-ok-right-2.right }) base middle between c.term-in-Product-2.new.arena.top c.term-in-Product-2.new.arena.cells.now room lies b.2 }
+    record { ready = ready n (term_poly n a.0) (term_poly n b.0) (record { mark = c.top-mark-in-Product.result; left = left; right = c.in_ok-right-in-Product.right }) base middle between c.term-in-Product-2.new.arena.top c.term-in-Product-2.new.arena.cells.now room lies b.2 }
 
-pub returns-in-ok-right-2 : goal.returns-in-ok-right-2
+pub returns-in_ok-right-in-Product : goal.returns-in_ok-right-in-Product
 unfolding term_poly
-returns-in-ok-right-2 t c =
+returns-in_ok-right-in-Product t c =
     let n = c.args.variables in
     let words = c.args.reader.now.rest.now in
     let rest = c.kind.new.self.rest.now in
     let go = term_at (c.args.depth - 1) n in
-    let opened = term-of-kind c.args.depth n words rest _ c.if-depth-eq0.false c.in-ok-kind.ensures ∙ ap (λ k. term_by n go k rest) c.in-Product.is in
+    let opened = term-of-kind c.args.depth n words rest _ c.if-depth-eq0.false c.in_ok-kind.ensures ∙ ap (λ k. term_by n go k rest) c.in-Product.is in
     let base = c.args.arena.now.cells.now in
     let middle = c.term-in-Product.new.arena.top in
     let between = c.term-in-Product.new.arena.cells.now in
     let first = c.term-in-Product.new.reader.rest.now in
-    let a = evaluated-ok n (go rest) first c.args.arena.now.top base middle between c.in-ok-left-2.left c.in-ok-left-2.ensures.read in
+    let a = evaluated-ok n (go rest) first c.args.arena.now.top base middle between c.in_ok-left-in-Product.left c.in_ok-left-in-Product.ensures.read in
     let second = c.term-in-Product-2.new.reader.rest.now in
-    let b = evaluated-ok n (go first) second middle between c.term-in-Product-2.new.arena.top c.term-in-Product-2.new.arena.cells.now c.in-ok-right-2.right c.in-ok-right-2.ensures.read in
-    let left = c.in-ok-left-2.left in
+    let b = evaluated-ok n (go first) second middle between c.term-in-Product-2.new.arena.top c.term-in-Product-2.new.arena.cells.now c.in_ok-right-in-Product.right c.in_ok-right-in-Product.ensures.read in
+    let left = c.in_ok-left-in-Product.left in
     let lies : Placed n (term_poly n a.0) left c.top-mark-in-Product.result base middle between = subst (λ m. Placed n (term_poly n a.0) left m base middle between) (sym c.top-mark-in-Product.ensures) a.2 in
-    let made = c.place-product.ensures.placed n (term_poly n a.0) (term_poly n b.0) base middle between c.requires.few lies b.2 in
+    let made = c.place_product.ensures.placed n (term_poly n a.0) (term_poly n b.0) base middle between c.requires.few lies b.2 in
     record {
       read = evaluates-read _ _ _ _ _ _ _ (Product a.0 b.0) _ (opened ∙ two-read Product go rest first second a.0 b.0 a.1 b.1)
-          (subst (λ m. Placed n (term_poly n (Product a.0 b.0)) c.place-product.result m base c.place-product.new.arena.top c.place-product.new.arena.cells.now) c.top-mark-in-Product.ensures made);
+          (subst (λ m. Placed n (term_poly n (Product a.0 b.0)) c.place_product.result m base c.place_product.new.arena.top c.place_product.new.arena.cells.now) c.top-mark-in-Product.ensures made);
       lent = search rules;
     }
 
@@ -229,7 +229,7 @@ pub returns-in-BelowZero : goal.returns-in-BelowZero
 returns-in-BelowZero t c =
     let n = c.args.variables in
     let words = c.args.reader.now.rest.now in
-    let opened = term-of-kind c.args.depth n words c.kind.new.self.rest.now _ c.if-depth-eq0.false c.in-ok-kind.ensures in
+    let opened = term-of-kind c.args.depth n words c.kind.new.self.rest.now _ c.if-depth-eq0.false c.in_ok-kind.ensures in
     record {
       read = evaluates-refused _ _ _ _ _ _ _ (opened ∙ no-term n (term_at (c.args.depth - 1) n) _ c.kind.new.self.rest.now c.in-BelowZero.is) _ refl;
       lent = search rules;

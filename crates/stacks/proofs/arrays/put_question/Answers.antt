@@ -13,18 +13,18 @@ returns c =
     let count16 : c.args.question.marks.count < 65536 = search rules in
     let facts16 : c.args.question.marks.facts < 65536 = search rules in
     let frames16 : c.args.question.marks.frames < 65536 = search rules in
-    let finished : SFits w64 c.branch-cells-branch.result.finished = search rules in
-    let above : SFits w64 c.branch-cells-branch.result.above = search rules in
-    let at : SFits w64 c.branch-cells-branch.result.at = search rules in
-    let b = c.branch-cells-branch.result in
+    let finished : SFits w64 c.branch_cells-branch.result.finished = search rules in
+    let above : SFits w64 c.branch_cells-branch.result.above = search rules in
+    let at : SFits w64 c.branch_cells-branch.result.at = search rules in
+    let b = c.branch_cells-branch.result in
     written 10 question_of c.args.i _ c.args.questions.now c.put.new.cells c.args.question refl c.requires
     (question-back c.args.question looks16 base16 done16 ahead16 count16 facts16 frames16 _ _ _ _ _ _ _ b.finished b.above b.at
-    (trip _ _ c.from.type-inv c.from.ensures)
-    (trip _ _ c.from-2.type-inv c.from-2.ensures)
-    (trip _ _ c.from-3.type-inv c.from-3.ensures)
-    (trip _ _ c.from-4.type-inv c.from-4.ensures)
-    (trip _ _ c.from-5.type-inv c.from-5.ensures)
-    (trip _ _ c.from-6.type-inv c.from-6.ensures)
-    (trip _ _ c.from-7.type-inv c.from-7.ensures)
-    finished above at c.branch-cells-branch.ensures)
+    (trip _ _ c.from.type_inv c.from.ensures)
+    (trip _ _ c.from-2.type_inv c.from-2.ensures)
+    (trip _ _ c.from-3.type_inv c.from-3.ensures)
+    (trip _ _ c.from-4.type_inv c.from-4.ensures)
+    (trip _ _ c.from-5.type_inv c.from-5.ensures)
+    (trip _ _ c.from-6.type_inv c.from-6.ensures)
+    (trip _ _ c.from-7.type_inv c.from-7.ensures)
+    finished above at c.branch_cells-branch.ensures)
     c.put.ensures

@@ -3,16 +3,16 @@ use Rattle.stacks.specs.Slots.{slot_in}
 use Rattle.stacks.proofs.Fronts.{slot-few}
 use Rattle.stacks.proofs.slots.count_at.Goals as goal
 
-pub overflow-cast-result : goal.overflow-cast-result
-overflow-cast-result c =
+pub overflow_cast-result : goal.overflow_cast-result
+overflow_cast-result c =
     let few : length (slot_in c.args.slots.now c.args.i) ≤ 64 = slot-few c.args.slots.now c.args.i in
-    let e : length c.front-at.result.now ≡ length (slot_in c.args.slots.now c.args.i) =
-    ap length (c.front-at.ensures ∙ take_all 64 (slot_in c.args.slots.now c.args.i) few) in
+    let e : length c.front_at.result.now ≡ length (slot_in c.args.slots.now c.args.i) =
+    ap length (c.front_at.ensures ∙ take_all 64 (slot_in c.args.slots.now c.args.i) few) in
     record { fits = omega arith }
 
 pub returns : goal.returns
 returns c =
     let few : length (slot_in c.args.slots.now c.args.i) ≤ 64 = slot-few c.args.slots.now c.args.i in
-    let e : length c.front-at.result.now ≡ length (slot_in c.args.slots.now c.args.i) =
-    ap length (c.front-at.ensures ∙ take_all 64 (slot_in c.args.slots.now c.args.i) few) in
+    let e : length c.front_at.result.now ≡ length (slot_in c.args.slots.now c.args.i) =
+    ap length (c.front_at.ensures ∙ take_all 64 (slot_in c.args.slots.now c.args.i) few) in
     record { value = e; bound = omega arith }

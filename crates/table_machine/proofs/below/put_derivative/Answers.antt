@@ -7,16 +7,16 @@ use Rattle.stacks.proofs.Holding.{slot_laws}
 use Rattle.table_machine.proofs.Deriving.{derived, not-derived, pushed-part, below-kept, length-cells}
 use Rattle.table_machine.proofs.below.put_derivative.Goals as goal
 
-pub view-at-requires : goal.view-at-requires
-view-at-requires c = (slot_laws.front-holds c.args.others (slot_in c.args.slots.now c.args.slot) c.args.count (c.requires.hold c.args.slot)).stored
+pub view_at-requires : goal.view_at-requires
+view_at-requires c = (slot_laws.front-holds c.args.others (slot_in c.args.slots.now c.args.slot) c.args.count (c.requires.hold c.args.slot)).stored
 
 pub part-requires : goal.part-requires
 part-requires c =
     let p = c.in-Ok.ensures.stored in
     omega (arith, c.top-mark.ensures, p.grown.higher, p.counted, length-cells (written c.derivative.new.self.front))
 
-pub put-polynomial-requires : goal.put-polynomial-requires
-put-polynomial-requires c =
+pub put_polynomial-requires : goal.put_polynomial-requires
+put_polynomial-requires c =
     let p = c.in-Ok.ensures.stored in
     let ts = written c.derivative.new.self.front in
     let top = c.args.arena.now.top in
@@ -38,9 +38,9 @@ returns-in-Ok c =
     let n = c.args.others in
     let back : c.release.new.self.top ≡ top = c.release.ensures.top ∙ c.top-mark.ensures in
     record {
-      derives = derived n c.args.slots.now c.args.slot c.args.count c.args.to c.put-polynomial.new.slots ts c.in-Ok.len top cells c.pack.new.arena.top packed
-          c.part.result.now c.requires.few c.requires.hold (c.derivative.ensures.value ∙ ap (derivative_terms n) c.view-at.ensures) p c.args.arena.now.within
-          (c.part.ensures ∙ ap (λ k. take c.in-Ok.len (drop k packed)) c.top-mark.ensures) c.put-polynomial.ensures (length-cells ts);
+      derives = derived n c.args.slots.now c.args.slot c.args.count c.args.to c.put_polynomial.new.slots ts c.in-Ok.len top cells c.pack.new.arena.top packed
+          c.part.result.now c.requires.few c.requires.hold (c.derivative.ensures.value ∙ ap (derivative_terms n) c.view_at.ensures) p c.args.arena.now.within
+          (c.part.ensures ∙ ap (λ k. take c.in-Ok.len (drop k packed)) c.top-mark.ensures) c.put_polynomial.ensures (length-cells ts);
       arena = (
         back,
         ap (λ k. take k c.release.new.self.cells.now) back ∙ ap (take top) c.release.ensures.cells ∙ below-kept (cells_of ts) cells packed top c.pack.new.arena.top p.grown c.args.arena.now.within,
@@ -53,6 +53,6 @@ returns-in-Err c =
     let ts = written c.derivative.new.self.front in
     let n = c.args.others in
     record {
-      derives = (not-derived n c.args.slots.now c.args.slot c.args.count ts c.requires.few c.requires.hold (c.derivative.ensures.value ∙ ap (derivative_terms n) c.view-at.ensures) p.0, refl);
+      derives = (not-derived n c.args.slots.now c.args.slot c.args.count ts c.requires.few c.requires.hold (c.derivative.ensures.value ∙ ap (derivative_terms n) c.view_at.ensures) p.0, refl);
       arena = (p.1.same-top, ap (λ k. take k c.pack.new.arena.cells.now) p.1.same-top ∙ ap (take c.args.arena.now.top) p.1.same-cells);
     }

@@ -12,8 +12,8 @@ use Rattle.table_machine.proofs.equality.same_at.Goals as goal
 pub returns-then-key : goal.returns-then-key
 returns-then-key c =
     let keys = eq-eqb _ _ (sym c.key.ensures.value ∙ c.if-key.true ∙ c.key-2.ensures.value) in
-    let x = from_bits c.with-sign.result c.with-sign.type-inv ∙ c.with-sign.ensures.value ∙ ap (signed_number c.args.negated) (from_bits c.coefficient.result c.coefficient.type-inv ∙ c.coefficient.ensures.value) in
-    let y = from_bits c.coefficient-then-key.result c.coefficient-then-key.type-inv ∙ c.coefficient-then-key.ensures.value in
+    let x = from_bits c.with_sign.result c.with_sign.type_inv ∙ c.with_sign.ensures.value ∙ ap (signed_number c.args.negated) (from_bits c.coefficient.result c.coefficient.type_inv ∙ c.coefficient.ensures.value) in
+    let y = from_bits c.coefficient-then-key.result c.coefficient-then-key.type_inv ∙ c.coefficient-then-key.ensures.value in
     c.equal.ensures ∙ ap₂ (λ u v. is_zero_number (u +ℤ neg_ℤ v)) x y ∙
     ap (λ t. t && is_zero_number (signed_number c.args.negated (term_at (stretch_terms c.args.left) c.args.i).times +ℤ neg_ℤ (term_at (stretch_terms c.args.right) c.args.i).times)) (sym keys) ∙
     ap (λ m. same_monomial m (term_at (stretch_terms c.args.right) c.args.i)) (sym (signed-at c.args.negated (stretch_terms c.args.left) c.args.i c.requires.left))

@@ -12,13 +12,13 @@ returns-then-len c =
     sym (other_length (signed c.args.negated (stretch_terms c.args.left)) (stretch_terms c.args.right)
     (λ e. c.if-len.true (c.len.ensures.value ∙ sym (length-signed c.args.negated (stretch_terms c.args.left)) ∙ e ∙ sym c.len-2.ensures.value)))
 
-pub returns-then-not-same-at : goal.returns-then-not-same-at
-returns-then-not-same-at c =
+pub returns-then-not-same_at : goal.returns-then-not-same_at
+returns-then-not-same_at c =
     let p = signed c.args.negated (stretch_terms c.args.left) in
     let q = stretch_terms c.args.right in
     let i : c.loop-i.i < length p = omega (arith, length-signed c.args.negated (stretch_terms c.args.left), c.loop-i-test.true, c.len-i-end.ensures.value) in
     let j : c.loop-i.i < length q = omega (arith, i, length-signed c.args.negated (stretch_terms c.args.left), c.len.ensures.value, c.len-2.ensures.value, c.if-len.false) in
-    ap (λ t. t && same_terms (drop (c.loop-i.i + 1) p) (drop (c.loop-i.i + 1) q)) c.if-not-same-at.ensures ∙ sym (same_place p q c.loop-i.i i j) ∙ c.loop-i.invariant
+    ap (λ t. t && same_terms (drop (c.loop-i.i + 1) p) (drop (c.loop-i.i + 1) q)) c.if-not-same_at.ensures ∙ sym (same_place p q c.loop-i.i i j) ∙ c.loop-i.invariant
 
 pub loop-i-preserved : goal.loop-i-preserved
 loop-i-preserved c =
@@ -26,7 +26,7 @@ loop-i-preserved c =
     let q = stretch_terms c.args.right in
     let i : c.loop-i.i < length p = omega (arith, length-signed c.args.negated (stretch_terms c.args.left), c.loop-i-test.true, c.len-i-end.ensures.value) in
     let j : c.loop-i.i < length q = omega (arith, i, length-signed c.args.negated (stretch_terms c.args.left), c.len.ensures.value, c.len-2.ensures.value, c.if-len.false) in
-    ap (λ t. t && same_terms (drop (c.loop-i.i + 1) p) (drop (c.loop-i.i + 1) q)) c.if-not-same-at.ensures ∙ sym (same_place p q c.loop-i.i i j) ∙ c.loop-i.invariant
+    ap (λ t. t && same_terms (drop (c.loop-i.i + 1) p) (drop (c.loop-i.i + 1) q)) c.if-not-same_at.ensures ∙ sym (same_place p q c.loop-i.i i j) ∙ c.loop-i.invariant
 
 pub returns : goal.returns
 returns c =

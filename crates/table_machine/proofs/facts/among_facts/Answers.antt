@@ -7,19 +7,19 @@ use Rattle.stacks.specs.Memories.{front_poly, fact_from}
 use Rattle.table_machine.proofs.Telling.{fact-told, fact-found, fact-passed, no-facts}
 use Rattle.table_machine.proofs.facts.among_facts.Goals as goal
 
-pub returns-then-is-some : goal.returns-then-is-some
-returns-then-is-some c =
+pub returns-then-is_some : goal.returns-then-is_some
+returns-then-is_some c =
     let l : 0 < c.loop-i.i = omega arith in
     let e = fact-told c.args.others c.args.slots.now c.args.slot c.args.count c.loop-i.i (fact_in c.args.facts.now) _ _ c.told-sign.result c.requires.hold l
-    c.fact-at.ensures c.leading-at-leading.ensures c.told-sign.ensures in
-    fact-found c.told-sign.result _ _ (sym c.if-is-some.ensures) e ∙ c.loop-i.invariant
+    c.fact_at.ensures c.leading_at-leading.ensures c.told-sign.ensures in
+    fact-found c.told-sign.result _ _ (sym c.if-is_some.ensures) e ∙ c.loop-i.invariant
 
 pub loop-i-preserved : goal.loop-i-preserved
 loop-i-preserved c =
     let l : 0 < c.loop-i.i = omega arith in
     let e = fact-told c.args.others c.args.slots.now c.args.slot c.args.count c.loop-i.i (fact_in c.args.facts.now) _ _ c.told-sign.result c.requires.hold l
-    c.fact-at.ensures c.leading-at-leading.ensures c.told-sign.ensures in
-    fact-passed c.told-sign.result _ _ (sym c.if-is-some.ensures) e ∙ c.loop-i.invariant
+    c.fact_at.ensures c.leading_at-leading.ensures c.told-sign.ensures in
+    fact-passed c.told-sign.result _ _ (sym c.if-is_some.ensures) e ∙ c.loop-i.invariant
 
 pub returns : goal.returns
 returns c =

@@ -3,16 +3,16 @@ use Rattle.std.proofs.Common.{true, false, sym, ◌∙◌}
 use Rattle.std.proofs.lemmas.List.{at_drop_all}
 use Rattle.grammar.specs.Tokens.{position}
 use Rattle.text.specs.Outcome.{later_by}
-use Rattle.text.proofs.Positions.{same_test, found_here, found-later}
+use Rattle.text.proofs.Positions.{found_here, found-later}
 use Rattle.text.proofs.source.position.Goals as goal
 
 pub returns-then-eq : goal.returns-then-eq
 returns-then-eq c =
-    record { value = sym (c.loop-i.invariant ∙ found_here c.args.names.now c.args.word _ c.loop-i.i c.loop-i-test.true (same_test _ c.args.word.letters true c.eq.result c.eq.ensures c.if-eq.true)); within = c.loop-i-test.true }
+    record { value = sym (c.loop-i.invariant ∙ found_here c.args.names.now c.args.word _ c.loop-i.i c.loop-i-test.true (sym c.eq.ensures ∙ c.if-eq.true)); within = c.loop-i-test.true }
 
 pub loop-i-preserved : goal.loop-i-preserved
 loop-i-preserved c =
-    c.loop-i.invariant ∙ found-later c.args.names.now c.args.word _ c.loop-i.i c.loop-i-test.true (same_test _ c.args.word.letters false c.eq.result c.eq.ensures c.if-eq.false)
+    c.loop-i.invariant ∙ found-later c.args.names.now c.args.word _ c.loop-i.i c.loop-i-test.true (sym c.eq.ensures ∙ c.if-eq.false)
 
 pub returns : goal.returns
 unfolding position

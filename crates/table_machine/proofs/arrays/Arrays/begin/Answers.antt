@@ -3,4 +3,4 @@ use Rattle.table_machine.proofs.Moved.{begins}
 use Rattle.table_machine.proofs.arrays.Arrays.begin.Goals as goal
 
 pub returns : goal.returns
-returns c = λ n. begins n (cells_of c.args.self.now) c.args.size c.count-at.result c.count-at.ensures.value
+returns c = λ n. begins n (cells_of c.args.self.now) c.args.size c.count_at.result c.count_at.ensures.value

@@ -3,7 +3,7 @@ use Rattle.stacks.specs.Slots.{slot_in}
 use Rattle.stacks.proofs.Holding.{slot_laws}
 use Rattle.table_machine.proofs.arrays.Arrays.current.Goals as goal
 
-pub view-at-requires : goal.view-at-requires
-view-at-requires c =
+pub view_at-requires : goal.view_at-requires
+view_at-requires c =
     let i = c.args.marks.base + c.args.marks.done in
     (slot_laws.front-holds c.args.others (slot_in c.args.self.now.slots.now i) c.args.marks.count (c.requires.hold i)).stored

@@ -2,6 +2,6 @@ use Rattle.stacks.specs.Slots.{slot_in}
 use Rattle.stacks.proofs.Holding.{slot_laws}
 use Rattle.table_machine.proofs.arrays.Arrays.front.Goals as goal
 
-pub view-at-requires : goal.view-at-requires
-view-at-requires c =
+pub view_at-requires : goal.view_at-requires
+view_at-requires c =
     (slot_laws.front-holds c.args.others (slot_in c.args.self.now.slots.now c.args.slot) c.args.count (c.requires c.args.slot)).stored

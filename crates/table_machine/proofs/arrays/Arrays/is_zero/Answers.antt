@@ -9,5 +9,5 @@ pub returns : goal.returns
 returns c =
     let slots = c.args.self.now.slots.now in
     let i = c.args.marks.base + c.args.marks.done in
-    c.is-zero.ensures ∙ ap is_zero_terms c.current.ensures ∙
+    c.is_zero.ensures ∙ ap is_zero_terms c.current.ensures ∙
     denoting-laws.zero_is (suc c.args.others) (front_terms slots i c.args.marks.count) _ (front-denotes c.args.others slots i c.args.marks.count c.requires.hold)

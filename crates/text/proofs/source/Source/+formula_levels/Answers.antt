@@ -9,14 +9,14 @@ use Rattle.grammar.specs.Nesting.{nest}
 use Rattle.grammar.specs.Reader.{run, Read, ◌>>=◌}
 use Rattle.grammar.specs.Terms.{OfTerm, OfClaim}
 use Rattle.grammar.specs.Tokens.{sign, keyword}
-use Rattle.grammar.proofs.Runs.{goes_on, stops, while-goes, while-stops, while-ended, while-over}
+use Rattle.grammar.proofs.Runs.{goes_on as run_on, stops, while-goes, while-stops, while-ended, while-over}
 use Rattle.text.specs.Claims.{chain_words}
 use Rattle.text.specs.Sheet.{Holds}
 use Rattle.text.proofs.Chains.{term-stands, claim-stands, chain-refused, bind-same, implied-words}
 use Rattle.text.proofs.Sheets.{same-words}
 use Rattle.text.proofs.Steps.{read_by, refused-by, chose, passed_over, no_deeper-atom, deeper-atom, no_deeper-formula, deeper-formula, claims, no-claim, regrouped}
-use Rattle.text.proofs.source.Source.+and_next_arrow_next_atom_chained_conjoined_conjunction_denied_disjoined_disjunction_enclosed_equated_equivalence_from_word_implication_or_next_same_next.Goals as goal
-use Rattle.text.proofs.source.Source.+and_next_arrow_next_atom_chained_conjoined_conjunction_denied_disjoined_disjunction_enclosed_equated_equivalence_from_word_implication_or_next_same_next.Goals.{conjoined-then-arrow-via-then-arrow, conjoined-then-arrow-via-else-arrow+then-front-ne97, disjoined-then-arrow-via-then-arrow, disjoined-then-arrow-via-else-arrow+then-front-ne111, equated-then-arrow-via-then-arrow, equated-then-arrow-via-else-arrow+then-front-ne60, chained-else-not-arrow-via-then-not-arrow+else-front-ne45, chained-else-not-arrow-via-else-not-arrow}
+use Rattle.text.proofs.source.Source.+formula_levels.Goals as goal
+use Rattle.text.proofs.source.Source.+formula_levels.Goals.{conjoined-then-arrow-via-then-arrow, conjoined-then-arrow-via-else-arrow+then-front-ne97, disjoined-then-arrow-via-then-arrow, disjoined-then-arrow-via-else-arrow+then-front-ne111, equated-then-arrow-via-then-arrow, equated-then-arrow-via-else-arrow+then-front-ne60, chained-else-not-arrow-via-then-not-arrow+else-front-ne45, chained-else-not-arrow-via-else-not-arrow}
 
 pub and_next-returns-in_err-keyword : goal.and_next-returns-in_err-keyword
 unfolding row_next
@@ -26,13 +26,13 @@ and_next-returns-in_err-keyword m c xs p begins held =
 pub and_next-returns-in_err-piece : goal.and_next-returns-in_err-piece
 unfolding row_next atom run
 and_next-returns-in_err-piece m c xs p begins held =
-    refused-by _ _ c.from_residual-in_err-piece.result _ _ (goes_on _ _ _ _ _ _ c.in_ok-keyword.ensures ∙ stops (atom c.args.self.now.names.now (nest c.args.self.now.names.now c.args.depth)) _ _ _ _ (c.in_err-piece.ensures (xs ++ formula_words p.formula) held)) c.from_residual-in_err-piece.ensures.1
+    refused-by _ _ c.from_residual-in_err-piece.result _ _ (run_on _ _ _ _ _ _ c.in_ok-keyword.ensures ∙ stops (atom c.args.self.now.names.now (nest c.args.self.now.names.now c.args.depth)) _ _ _ _ (c.in_err-piece.ensures (xs ++ formula_words p.formula) held)) c.from_residual-in_err-piece.ensures.1
 
 pub and_next-returns-in_err-arrow : goal.and_next-returns-in_err-arrow
 unfolding row_next atom run
 and_next-returns-in_err-arrow m c xs p begins held =
     let a = c.in_ok-piece.ensures (xs ++ formula_words p.formula) held in
-    refused-by _ _ c.from_residual-in_err-arrow.result _ _ (goes_on _ _ _ _ _ _ c.in_ok-keyword.ensures ∙ goes_on (atom c.args.self.now.names.now (nest c.args.self.now.names.now c.args.depth)) _ _ _ _ _ a.1 ∙ stops _ _ _ _ _ (no-claim c.atom.new.sheet (xs ++ formula_words p.formula) a.0 c.in_ok-piece.piece _ c.args.self.now.text.now c.atom.new.at a.2 (sym c.in_err-arrow.ensures))) c.from_residual-in_err-arrow.ensures.1
+    refused-by _ _ c.from_residual-in_err-arrow.result _ _ (run_on _ _ _ _ _ _ c.in_ok-keyword.ensures ∙ run_on (atom c.args.self.now.names.now (nest c.args.self.now.names.now c.args.depth)) _ _ _ _ _ a.1 ∙ stops _ _ _ _ _ (no-claim c.atom.new.sheet (xs ++ formula_words p.formula) a.0 c.in_ok-piece.piece _ c.args.self.now.text.now c.atom.new.at a.2 (sym c.in_err-arrow.ensures))) c.from_residual-in_err-arrow.ensures.1
 
 pub and_next-returns : goal.and_next-returns
 unfolding row_next run atom formula_words
@@ -40,7 +40,7 @@ and_next-returns m c xs p begins held =
     let a = c.in_ok-piece.ensures (xs ++ formula_words p.formula) held in
     let q = claims c.atom.new.sheet (xs ++ formula_words p.formula) a.0 c.in_ok-piece.piece c.in_ok-arrow.arrow c.args.self.now.text.now c.atom.new.at a.2 (sym c.in_ok-arrow.ensures) in (
       joined And p q.0,
-      goes_on _ _ _ _ _ _ c.in_ok-keyword.ensures ∙ goes_on (atom c.args.self.now.names.now (nest c.args.self.now.names.now c.args.depth)) _ _ _ _ _ a.1 ∙ goes_on _ _ _ _ _ _ q.1,
+      run_on _ _ _ _ _ _ c.in_ok-keyword.ensures ∙ run_on (atom c.args.self.now.names.now (nest c.args.self.now.names.now c.args.depth)) _ _ _ _ _ a.1 ∙ run_on _ _ _ _ _ _ q.1,
       (
         q.2.0,
         c.insert.ensures xs (formula_words p.formula ++ formula_words q.0.formula) begins (regrouped c.atom.new.sheet xs (formula_words p.formula) (formula_words q.0.formula) q.2.1),
@@ -82,27 +82,27 @@ unfolding conjunction in_row on_claim run atom
 conjunction-returns-in_err-atom m c xs held =
     refused-by _ _ c.from_residual.result _ _ (stops (atom c.args.self.now.names.now (nest c.args.self.now.names.now c.args.depth)) _ _ _ _ (c.in_err-atom.ensures xs held)) c.from_residual.ensures.1
 
-pub conjunction-returns-in_err-arrow : goal.conjunction-returns-in_err-arrow
+pub conjunction-returns-in_err-arrow-in-Claim : goal.conjunction-returns-in_err-arrow-in-Claim
 unfolding conjunction in_row on_claim run atom
-conjunction-returns-in_err-arrow m c xs held =
+conjunction-returns-in_err-arrow-in-Claim m c xs held =
     let a = c.in_ok-atom.ensures xs held in
     let q = claim-stands c.atom.new.sheet xs a.0 c.in_ok-atom.field-0 c.in-Claim.arrow a.2 c.in-Claim.is in
-    refused-by _ _ c.from_residual-in_err-arrow.result _ _ (goes_on (atom c.args.self.now.names.now (nest c.args.self.now.names.now c.args.depth)) _ _ _ _ _ (a.1 ∙ ap (λ z. Read z c.atom.new.at) q.1) ∙ stops _ _ _ _ _ (c.in_err-arrow.ensures xs q.0 held.counted q.2.0 q.2.1)) c.from_residual-in_err-arrow.ensures.1
+    refused-by _ _ c.from_residual-in_err-arrow-in-Claim.result _ _ (run_on (atom c.args.self.now.names.now (nest c.args.self.now.names.now c.args.depth)) _ _ _ _ _ (a.1 ∙ ap (λ z. Read z c.atom.new.at) q.1) ∙ stops _ _ _ _ _ (c.in_err-arrow-in-Claim.ensures xs q.0 held.counted q.2.0 q.2.1)) c.from_residual-in_err-arrow-in-Claim.ensures.1
 
 pub conjunction-returns-in-Term : goal.conjunction-returns-in-Term
 unfolding conjunction in_row on_claim run atom
 conjunction-returns-in-Term m c xs held =
     let a = c.in_ok-atom.ensures xs held in
     let q = term-stands c.atom.new.sheet xs a.0 c.in_ok-atom.field-0 a.2 c.in-Term.is in
-    (OfTerm q.0, goes_on (atom c.args.self.now.names.now (nest c.args.self.now.names.now c.args.depth)) _ _ _ _ _ (a.1 ∙ ap (λ z. Read z c.atom.new.at) q.1), q.2)
+    (OfTerm q.0, run_on (atom c.args.self.now.names.now (nest c.args.self.now.names.now c.args.depth)) _ _ _ _ _ (a.1 ∙ ap (λ z. Read z c.atom.new.at) q.1), q.2)
 
-pub conjunction-returns-in_ok-arrow : goal.conjunction-returns-in_ok-arrow
+pub conjunction-returns-in_ok-arrow-in-Claim : goal.conjunction-returns-in_ok-arrow-in-Claim
 unfolding conjunction in_row on_claim run atom
-conjunction-returns-in_ok-arrow m c xs held =
+conjunction-returns-in_ok-arrow-in-Claim m c xs held =
     let a = c.in_ok-atom.ensures xs held in
     let q = claim-stands c.atom.new.sheet xs a.0 c.in_ok-atom.field-0 c.in-Claim.arrow a.2 c.in-Claim.is in
-    let n = c.in_ok-arrow.ensures xs q.0 held.counted q.2.0 q.2.1 in
-    (OfClaim n.0, goes_on (atom c.args.self.now.names.now (nest c.args.self.now.names.now c.args.depth)) _ _ _ _ _ (a.1 ∙ ap (λ z. Read z c.atom.new.at) q.1) ∙ goes_on _ _ _ _ _ _ n.1, n.2)
+    let n = c.in_ok-arrow-in-Claim.ensures xs q.0 held.counted q.2.0 q.2.1 in
+    (OfClaim n.0, run_on (atom c.args.self.now.names.now (nest c.args.self.now.names.now c.args.depth)) _ _ _ _ _ (a.1 ∙ ap (λ z. Read z c.atom.new.at) q.1) ∙ run_on _ _ _ _ _ _ n.1, n.2)
 
 pub or_next-returns-in_err-keyword : goal.or_next-returns-in_err-keyword
 unfolding row_next
@@ -112,13 +112,13 @@ or_next-returns-in_err-keyword m c xs p begins held =
 pub or_next-returns-in_err-piece : goal.or_next-returns-in_err-piece
 unfolding row_next
 or_next-returns-in_err-piece m c xs p begins held =
-    refused-by _ _ c.from_residual-in_err-piece.result _ _ (goes_on _ _ _ _ _ _ c.in_ok-keyword.ensures ∙ stops (conjunction c.args.self.now.names.now (nest c.args.self.now.names.now c.args.depth)) _ _ _ _ (c.in_err-piece.ensures (xs ++ formula_words p.formula) held)) c.from_residual-in_err-piece.ensures.1
+    refused-by _ _ c.from_residual-in_err-piece.result _ _ (run_on _ _ _ _ _ _ c.in_ok-keyword.ensures ∙ stops (conjunction c.args.self.now.names.now (nest c.args.self.now.names.now c.args.depth)) _ _ _ _ (c.in_err-piece.ensures (xs ++ formula_words p.formula) held)) c.from_residual-in_err-piece.ensures.1
 
 pub or_next-returns-in_err-arrow : goal.or_next-returns-in_err-arrow
 unfolding row_next
 or_next-returns-in_err-arrow m c xs p begins held =
     let a = c.in_ok-piece.ensures (xs ++ formula_words p.formula) held in
-    refused-by _ _ c.from_residual-in_err-arrow.result _ _ (goes_on _ _ _ _ _ _ c.in_ok-keyword.ensures ∙ goes_on (conjunction c.args.self.now.names.now (nest c.args.self.now.names.now c.args.depth)) _ _ _ _ _ a.1 ∙ stops _ _ _ _ _ (no-claim c.conjunction.new.sheet (xs ++ formula_words p.formula) a.0 c.in_ok-piece.piece _ c.args.self.now.text.now c.conjunction.new.at a.2 (sym c.in_err-arrow.ensures))) c.from_residual-in_err-arrow.ensures.1
+    refused-by _ _ c.from_residual-in_err-arrow.result _ _ (run_on _ _ _ _ _ _ c.in_ok-keyword.ensures ∙ run_on (conjunction c.args.self.now.names.now (nest c.args.self.now.names.now c.args.depth)) _ _ _ _ _ a.1 ∙ stops _ _ _ _ _ (no-claim c.conjunction.new.sheet (xs ++ formula_words p.formula) a.0 c.in_ok-piece.piece _ c.args.self.now.text.now c.conjunction.new.at a.2 (sym c.in_err-arrow.ensures))) c.from_residual-in_err-arrow.ensures.1
 
 pub or_next-returns : goal.or_next-returns
 unfolding row_next run formula_words
@@ -126,7 +126,7 @@ or_next-returns m c xs p begins held =
     let a = c.in_ok-piece.ensures (xs ++ formula_words p.formula) held in
     let q = claims c.conjunction.new.sheet (xs ++ formula_words p.formula) a.0 c.in_ok-piece.piece c.in_ok-arrow.arrow c.args.self.now.text.now c.conjunction.new.at a.2 (sym c.in_ok-arrow.ensures) in (
       joined Or p q.0,
-      goes_on _ _ _ _ _ _ c.in_ok-keyword.ensures ∙ goes_on (conjunction c.args.self.now.names.now (nest c.args.self.now.names.now c.args.depth)) _ _ _ _ _ a.1 ∙ goes_on _ _ _ _ _ _ q.1,
+      run_on _ _ _ _ _ _ c.in_ok-keyword.ensures ∙ run_on (conjunction c.args.self.now.names.now (nest c.args.self.now.names.now c.args.depth)) _ _ _ _ _ a.1 ∙ run_on _ _ _ _ _ _ q.1,
       (
         q.2.0,
         c.insert.ensures xs (formula_words p.formula ++ formula_words q.0.formula) begins (regrouped c.conjunction.new.sheet xs (formula_words p.formula) (formula_words q.0.formula) q.2.1),
@@ -168,27 +168,27 @@ unfolding disjunction in_row on_claim run
 disjunction-returns-in_err-conjunction m c xs held =
     refused-by _ _ c.from_residual.result _ _ (stops (conjunction c.args.self.now.names.now (nest c.args.self.now.names.now c.args.depth)) _ _ _ _ (c.in_err-conjunction.ensures xs held)) c.from_residual.ensures.1
 
-pub disjunction-returns-in_err-arrow : goal.disjunction-returns-in_err-arrow
+pub disjunction-returns-in_err-arrow-in-Claim : goal.disjunction-returns-in_err-arrow-in-Claim
 unfolding disjunction in_row on_claim run
-disjunction-returns-in_err-arrow m c xs held =
+disjunction-returns-in_err-arrow-in-Claim m c xs held =
     let a = c.in_ok-conjunction.ensures xs held in
     let q = claim-stands c.conjunction.new.sheet xs a.0 c.in_ok-conjunction.field-0 c.in-Claim.arrow a.2 c.in-Claim.is in
-    refused-by _ _ c.from_residual-in_err-arrow.result _ _ (goes_on (conjunction c.args.self.now.names.now (nest c.args.self.now.names.now c.args.depth)) _ _ _ _ _ (a.1 ∙ ap (λ z. Read z c.conjunction.new.at) q.1) ∙ stops _ _ _ _ _ (c.in_err-arrow.ensures xs q.0 held.counted q.2.0 q.2.1)) c.from_residual-in_err-arrow.ensures.1
+    refused-by _ _ c.from_residual-in_err-arrow-in-Claim.result _ _ (run_on (conjunction c.args.self.now.names.now (nest c.args.self.now.names.now c.args.depth)) _ _ _ _ _ (a.1 ∙ ap (λ z. Read z c.conjunction.new.at) q.1) ∙ stops _ _ _ _ _ (c.in_err-arrow-in-Claim.ensures xs q.0 held.counted q.2.0 q.2.1)) c.from_residual-in_err-arrow-in-Claim.ensures.1
 
 pub disjunction-returns-in-Term : goal.disjunction-returns-in-Term
 unfolding disjunction in_row on_claim run
 disjunction-returns-in-Term m c xs held =
     let a = c.in_ok-conjunction.ensures xs held in
     let q = term-stands c.conjunction.new.sheet xs a.0 c.in_ok-conjunction.field-0 a.2 c.in-Term.is in
-    (OfTerm q.0, goes_on (conjunction c.args.self.now.names.now (nest c.args.self.now.names.now c.args.depth)) _ _ _ _ _ (a.1 ∙ ap (λ z. Read z c.conjunction.new.at) q.1), q.2)
+    (OfTerm q.0, run_on (conjunction c.args.self.now.names.now (nest c.args.self.now.names.now c.args.depth)) _ _ _ _ _ (a.1 ∙ ap (λ z. Read z c.conjunction.new.at) q.1), q.2)
 
-pub disjunction-returns-in_ok-arrow : goal.disjunction-returns-in_ok-arrow
+pub disjunction-returns-in_ok-arrow-in-Claim : goal.disjunction-returns-in_ok-arrow-in-Claim
 unfolding disjunction in_row on_claim run
-disjunction-returns-in_ok-arrow m c xs held =
+disjunction-returns-in_ok-arrow-in-Claim m c xs held =
     let a = c.in_ok-conjunction.ensures xs held in
     let q = claim-stands c.conjunction.new.sheet xs a.0 c.in_ok-conjunction.field-0 c.in-Claim.arrow a.2 c.in-Claim.is in
-    let n = c.in_ok-arrow.ensures xs q.0 held.counted q.2.0 q.2.1 in
-    (OfClaim n.0, goes_on (conjunction c.args.self.now.names.now (nest c.args.self.now.names.now c.args.depth)) _ _ _ _ _ (a.1 ∙ ap (λ z. Read z c.conjunction.new.at) q.1) ∙ goes_on _ _ _ _ _ _ n.1, n.2)
+    let n = c.in_ok-arrow-in-Claim.ensures xs q.0 held.counted q.2.0 q.2.1 in
+    (OfClaim n.0, run_on (conjunction c.args.self.now.names.now (nest c.args.self.now.names.now c.args.depth)) _ _ _ _ _ (a.1 ∙ ap (λ z. Read z c.conjunction.new.at) q.1) ∙ run_on _ _ _ _ _ _ n.1, n.2)
 
 pub same_next-returns-in_err-sign : goal.same_next-returns-in_err-sign
 unfolding row_next
@@ -198,13 +198,13 @@ same_next-returns-in_err-sign m c xs p begins held =
 pub same_next-returns-in_err-piece : goal.same_next-returns-in_err-piece
 unfolding row_next
 same_next-returns-in_err-piece m c xs p begins held =
-    refused-by _ _ c.from_residual-in_err-piece.result _ _ (goes_on _ _ _ _ _ _ c.in_ok-sign.ensures ∙ stops (implication c.args.self.now.names.now (nest c.args.self.now.names.now c.args.depth)) _ _ _ _ (c.in_err-piece.ensures (xs ++ formula_words p.formula) held)) c.from_residual-in_err-piece.ensures.1
+    refused-by _ _ c.from_residual-in_err-piece.result _ _ (run_on _ _ _ _ _ _ c.in_ok-sign.ensures ∙ stops (implication c.args.self.now.names.now (nest c.args.self.now.names.now c.args.depth)) _ _ _ _ (c.in_err-piece.ensures (xs ++ formula_words p.formula) held)) c.from_residual-in_err-piece.ensures.1
 
 pub same_next-returns-in_err-arrow : goal.same_next-returns-in_err-arrow
 unfolding row_next
 same_next-returns-in_err-arrow m c xs p begins held =
     let a = c.in_ok-piece.ensures (xs ++ formula_words p.formula) held in
-    refused-by _ _ c.from_residual-in_err-arrow.result _ _ (goes_on _ _ _ _ _ _ c.in_ok-sign.ensures ∙ goes_on (implication c.args.self.now.names.now (nest c.args.self.now.names.now c.args.depth)) _ _ _ _ _ a.1 ∙ stops _ _ _ _ _ (no-claim c.implication.new.sheet (xs ++ formula_words p.formula) a.0 c.in_ok-piece.piece _ c.args.self.now.text.now c.implication.new.at a.2 (sym c.in_err-arrow.ensures))) c.from_residual-in_err-arrow.ensures.1
+    refused-by _ _ c.from_residual-in_err-arrow.result _ _ (run_on _ _ _ _ _ _ c.in_ok-sign.ensures ∙ run_on (implication c.args.self.now.names.now (nest c.args.self.now.names.now c.args.depth)) _ _ _ _ _ a.1 ∙ stops _ _ _ _ _ (no-claim c.implication.new.sheet (xs ++ formula_words p.formula) a.0 c.in_ok-piece.piece _ c.args.self.now.text.now c.implication.new.at a.2 (sym c.in_err-arrow.ensures))) c.from_residual-in_err-arrow.ensures.1
 
 pub same_next-returns : goal.same_next-returns
 unfolding row_next run
@@ -212,7 +212,7 @@ same_next-returns m c xs p begins held =
     let a = c.in_ok-piece.ensures (xs ++ formula_words p.formula) held in
     let q = claims c.implication.new.sheet (xs ++ formula_words p.formula) a.0 c.in_ok-piece.piece c.in_ok-arrow.arrow c.args.self.now.text.now c.implication.new.at a.2 (sym c.in_ok-arrow.ensures) in (
       joined equivalent p q.0,
-      goes_on _ _ _ _ _ _ c.in_ok-sign.ensures ∙ goes_on (implication c.args.self.now.names.now (nest c.args.self.now.names.now c.args.depth)) _ _ _ _ _ a.1 ∙ goes_on _ _ _ _ _ _ q.1,
+      run_on _ _ _ _ _ _ c.in_ok-sign.ensures ∙ run_on (implication c.args.self.now.names.now (nest c.args.self.now.names.now c.args.depth)) _ _ _ _ _ a.1 ∙ run_on _ _ _ _ _ _ q.1,
       (
         q.2.0,
         c.equate.ensures xs p.formula q.0.formula begins held.counted (regrouped c.implication.new.sheet xs (formula_words p.formula) (formula_words q.0.formula) q.2.1),
@@ -254,54 +254,54 @@ unfolding equivalence in_row on_claim run
 equivalence-returns-in_err-implication m c xs held =
     refused-by _ _ c.from_residual.result _ _ (stops (implication c.args.self.now.names.now (nest c.args.self.now.names.now c.args.depth)) _ _ _ _ (c.in_err-implication.ensures xs held)) c.from_residual.ensures.1
 
-pub equivalence-returns-in_err-arrow : goal.equivalence-returns-in_err-arrow
+pub equivalence-returns-in_err-arrow-in-Claim : goal.equivalence-returns-in_err-arrow-in-Claim
 unfolding equivalence in_row on_claim run
-equivalence-returns-in_err-arrow m c xs held =
+equivalence-returns-in_err-arrow-in-Claim m c xs held =
     let a = c.in_ok-implication.ensures xs held in
     let q = claim-stands c.implication.new.sheet xs a.0 c.in_ok-implication.field-0 c.in-Claim.arrow a.2 c.in-Claim.is in
-    refused-by _ _ c.from_residual-in_err-arrow.result _ _ (goes_on (implication c.args.self.now.names.now (nest c.args.self.now.names.now c.args.depth)) _ _ _ _ _ (a.1 ∙ ap (λ z. Read z c.implication.new.at) q.1) ∙ stops _ _ _ _ _ (c.in_err-arrow.ensures xs q.0 held.counted q.2.0 q.2.1)) c.from_residual-in_err-arrow.ensures.1
+    refused-by _ _ c.from_residual-in_err-arrow-in-Claim.result _ _ (run_on (implication c.args.self.now.names.now (nest c.args.self.now.names.now c.args.depth)) _ _ _ _ _ (a.1 ∙ ap (λ z. Read z c.implication.new.at) q.1) ∙ stops _ _ _ _ _ (c.in_err-arrow-in-Claim.ensures xs q.0 held.counted q.2.0 q.2.1)) c.from_residual-in_err-arrow-in-Claim.ensures.1
 
 pub equivalence-returns-in-Term : goal.equivalence-returns-in-Term
 unfolding equivalence in_row on_claim run
 equivalence-returns-in-Term m c xs held =
     let a = c.in_ok-implication.ensures xs held in
     let q = term-stands c.implication.new.sheet xs a.0 c.in_ok-implication.field-0 a.2 c.in-Term.is in
-    (OfTerm q.0, goes_on (implication c.args.self.now.names.now (nest c.args.self.now.names.now c.args.depth)) _ _ _ _ _ (a.1 ∙ ap (λ z. Read z c.implication.new.at) q.1), q.2)
+    (OfTerm q.0, run_on (implication c.args.self.now.names.now (nest c.args.self.now.names.now c.args.depth)) _ _ _ _ _ (a.1 ∙ ap (λ z. Read z c.implication.new.at) q.1), q.2)
 
-pub equivalence-returns-in_ok-arrow : goal.equivalence-returns-in_ok-arrow
+pub equivalence-returns-in_ok-arrow-in-Claim : goal.equivalence-returns-in_ok-arrow-in-Claim
 unfolding equivalence in_row on_claim run
-equivalence-returns-in_ok-arrow m c xs held =
+equivalence-returns-in_ok-arrow-in-Claim m c xs held =
     let a = c.in_ok-implication.ensures xs held in
     let q = claim-stands c.implication.new.sheet xs a.0 c.in_ok-implication.field-0 c.in-Claim.arrow a.2 c.in-Claim.is in
-    let n = c.in_ok-arrow.ensures xs q.0 held.counted q.2.0 q.2.1 in
-    (OfClaim n.0, goes_on (implication c.args.self.now.names.now (nest c.args.self.now.names.now c.args.depth)) _ _ _ _ _ (a.1 ∙ ap (λ z. Read z c.implication.new.at) q.1) ∙ goes_on _ _ _ _ _ _ n.1, n.2)
+    let n = c.in_ok-arrow-in-Claim.ensures xs q.0 held.counted q.2.0 q.2.1 in
+    (OfClaim n.0, run_on (implication c.args.self.now.names.now (nest c.args.self.now.names.now c.args.depth)) _ _ _ _ _ (a.1 ∙ ap (λ z. Read z c.implication.new.at) q.1) ∙ run_on _ _ _ _ _ _ n.1, n.2)
 
 pub implication-returns-in_err-disjunction : goal.implication-returns-in_err-disjunction
 unfolding implication on_claim run
 implication-returns-in_err-disjunction m c xs held =
     refused-by _ _ c.from_residual.result _ _ (stops (disjunction c.args.self.now.names.now (nest c.args.self.now.names.now c.args.depth)) _ _ _ _ (c.in_err-disjunction.ensures xs held)) c.from_residual.ensures.1
 
-pub implication-returns-in_err-chained : goal.implication-returns-in_err-chained
+pub implication-returns-in_err-chained-in-Claim : goal.implication-returns-in_err-chained-in-Claim
 unfolding implication on_claim run
-implication-returns-in_err-chained m c xs held =
+implication-returns-in_err-chained-in-Claim m c xs held =
     let a = c.in_ok-disjunction.ensures xs held in
     let q = claim-stands c.disjunction.new.sheet xs a.0 c.in_ok-disjunction.field-0 c.in-Claim.arrow a.2 c.in-Claim.is in
-    refused-by _ _ c.from_residual-in_err-chained-in-Claim.result _ _ (goes_on (disjunction c.args.self.now.names.now (nest c.args.self.now.names.now c.args.depth)) _ _ _ _ _ (a.1 ∙ ap (λ z. Read z c.disjunction.new.at) q.1) ∙ stops _ _ _ _ _ (c.in_err-chained-in-Claim.ensures xs q.0 held.counted q.2.0 q.2.1)) c.from_residual-in_err-chained-in-Claim.ensures.1
+    refused-by _ _ c.from_residual-in_err-chained-in-Claim.result _ _ (run_on (disjunction c.args.self.now.names.now (nest c.args.self.now.names.now c.args.depth)) _ _ _ _ _ (a.1 ∙ ap (λ z. Read z c.disjunction.new.at) q.1) ∙ stops _ _ _ _ _ (c.in_err-chained-in-Claim.ensures xs q.0 held.counted q.2.0 q.2.1)) c.from_residual-in_err-chained-in-Claim.ensures.1
 
 pub implication-returns-in-Term : goal.implication-returns-in-Term
 unfolding implication on_claim run
 implication-returns-in-Term m c xs held =
     let a = c.in_ok-disjunction.ensures xs held in
     let q = term-stands c.disjunction.new.sheet xs a.0 c.in_ok-disjunction.field-0 a.2 c.in-Term.is in
-    (OfTerm q.0, goes_on (disjunction c.args.self.now.names.now (nest c.args.self.now.names.now c.args.depth)) _ _ _ _ _ (a.1 ∙ ap (λ z. Read z c.disjunction.new.at) q.1), q.2)
+    (OfTerm q.0, run_on (disjunction c.args.self.now.names.now (nest c.args.self.now.names.now c.args.depth)) _ _ _ _ _ (a.1 ∙ ap (λ z. Read z c.disjunction.new.at) q.1), q.2)
 
-pub implication-returns-in_ok-chained : goal.implication-returns-in_ok-chained
+pub implication-returns-in_ok-chained-in-Claim : goal.implication-returns-in_ok-chained-in-Claim
 unfolding implication on_claim run
-implication-returns-in_ok-chained m c xs held =
+implication-returns-in_ok-chained-in-Claim m c xs held =
     let a = c.in_ok-disjunction.ensures xs held in
     let q = claim-stands c.disjunction.new.sheet xs a.0 c.in_ok-disjunction.field-0 c.in-Claim.arrow a.2 c.in-Claim.is in
     let n = c.in_ok-chained-in-Claim.ensures xs q.0 held.counted q.2.0 q.2.1 in
-    (OfClaim n.0, goes_on (disjunction c.args.self.now.names.now (nest c.args.self.now.names.now c.args.depth)) _ _ _ _ _ (a.1 ∙ ap (λ z. Read z c.disjunction.new.at) q.1) ∙ goes_on _ _ _ _ _ _ n.1, n.2)
+    (OfClaim n.0, run_on (disjunction c.args.self.now.names.now (nest c.args.self.now.names.now c.args.depth)) _ _ _ _ _ (a.1 ∙ ap (λ z. Read z c.disjunction.new.at) q.1) ∙ run_on _ _ _ _ _ _ n.1, n.2)
 
 pub arrow_next-returns-in_err-arrow_behind : goal.arrow_next-returns-in_err-arrow_behind
 unfolding chain_next
@@ -311,20 +311,20 @@ arrow_next-returns-in_err-arrow_behind m c xs s arrow held =
 pub arrow_next-returns-in_err-piece : goal.arrow_next-returns-in_err-piece
 unfolding chain_next
 arrow_next-returns-in_err-piece m c xs s arrow held =
-    chain-refused s _ _ c.from_residual-in_err-piece.result _ _ (goes_on _ _ _ _ _ _ (ap (λ b. run (arrow_behind b) c.args.self.now.text.now c.args.at.now) arrow ∙ c.in_ok-arrow_behind.ensures) ∙ stops (disjunction c.args.self.now.names.now (nest c.args.self.now.names.now c.args.depth)) _ _ _ _ (c.in_err-piece.ensures xs held)) c.from_residual-in_err-piece.ensures.1
+    chain-refused s _ _ c.from_residual-in_err-piece.result _ _ (run_on _ _ _ _ _ _ (ap (λ b. run (arrow_behind b) c.args.self.now.text.now c.args.at.now) arrow ∙ c.in_ok-arrow_behind.ensures) ∙ stops (disjunction c.args.self.now.names.now (nest c.args.self.now.names.now c.args.depth)) _ _ _ _ (c.in_err-piece.ensures xs held)) c.from_residual-in_err-piece.ensures.1
 
 pub arrow_next-returns-in_err-arrow : goal.arrow_next-returns-in_err-arrow
 unfolding chain_next
 arrow_next-returns-in_err-arrow m c xs s arrow held =
     let a = c.in_ok-piece.ensures xs held in
-    chain-refused s _ _ c.from_residual-in_err-arrow.result _ _ (goes_on _ _ _ _ _ _ (ap (λ b. run (arrow_behind b) c.args.self.now.text.now c.args.at.now) arrow ∙ c.in_ok-arrow_behind.ensures) ∙ goes_on (disjunction c.args.self.now.names.now (nest c.args.self.now.names.now c.args.depth)) _ _ _ _ _ a.1 ∙ stops _ _ _ _ _ (no-claim c.disjunction.new.sheet xs a.0 c.in_ok-piece.piece _ c.args.self.now.text.now c.disjunction.new.at a.2 (sym c.in_err-arrow.ensures))) c.from_residual-in_err-arrow.ensures.1
+    chain-refused s _ _ c.from_residual-in_err-arrow.result _ _ (run_on _ _ _ _ _ _ (ap (λ b. run (arrow_behind b) c.args.self.now.text.now c.args.at.now) arrow ∙ c.in_ok-arrow_behind.ensures) ∙ run_on (disjunction c.args.self.now.names.now (nest c.args.self.now.names.now c.args.depth)) _ _ _ _ _ a.1 ∙ stops _ _ _ _ _ (no-claim c.disjunction.new.sheet xs a.0 c.in_ok-piece.piece _ c.args.self.now.text.now c.disjunction.new.at a.2 (sym c.in_err-arrow.ensures))) c.from_residual-in_err-arrow.ensures.1
 
 pub arrow_next-returns : goal.arrow_next-returns
 unfolding chain_next run
 arrow_next-returns m c xs s arrow held =
     let a = c.in_ok-piece.ensures xs held in
     let q = claims c.disjunction.new.sheet xs a.0 c.in_ok-piece.piece c.in_ok-arrow.arrow c.args.self.now.text.now c.disjunction.new.at a.2 (sym c.in_ok-arrow.ensures) in
-    (q.0, goes_on _ _ _ _ _ _ (ap (λ b. run (arrow_behind b) c.args.self.now.text.now c.args.at.now) arrow ∙ c.in_ok-arrow_behind.ensures) ∙ goes_on (disjunction c.args.self.now.names.now (nest c.args.self.now.names.now c.args.depth)) _ _ _ _ _ a.1 ∙ goes_on _ _ _ _ _ _ q.1, q.2)
+    (q.0, run_on _ _ _ _ _ _ (ap (λ b. run (arrow_behind b) c.args.self.now.text.now c.args.at.now) arrow ∙ c.in_ok-arrow_behind.ensures) ∙ run_on (disjunction c.args.self.now.names.now (nest c.args.self.now.names.now c.args.depth)) _ _ _ _ _ a.1 ∙ run_on _ _ _ _ _ _ q.1, q.2)
 
 pub chained-loop-turn-init : goal.chained-loop-turn-init
 unfolding chained chain_words
@@ -343,7 +343,7 @@ chained-returns-then-front-ne45 m c xs p begins arrow held =
     let all : Holds c.loop-turn.sheet (xs ++ formula_words (implied i.0.before i.0.last.formula)) =
     same-words c.loop-turn.sheet (xs ++ (chain_words i.0.before ++ formula_words i.0.last.formula)) _ (ap (λ l. xs ++ l) (sym (implied-words i.0.before i.0.last.formula)))
     (regrouped c.loop-turn.sheet xs (chain_words i.0.before) (formula_words i.0.last.formula) i.4) in
-    (record { formula = implied i.0.before i.0.last.formula; arrow = false }, i.1 ∙ goes_on _ concluded _ _ i.0 _ (while-ended arrow_goes_on (chain_next (disjunction c.args.self.now.names.now (nest c.args.self.now.names.now c.args.depth))) _ i.0 c.args.self.now.text.now c.loop-turn.at (or_from _ _ (i.2 ∙ c.if-not-arrow.true) (ne_eqb _ 45 (λ e. c.if-front-ne45.true (c.front.ensures ∙ e))))), (refl, all))
+    (record { formula = implied i.0.before i.0.last.formula; arrow = false }, i.1 ∙ run_on _ concluded _ _ i.0 _ (while-ended arrow_goes_on (chain_next (disjunction c.args.self.now.names.now (nest c.args.self.now.names.now c.args.depth))) _ i.0 c.args.self.now.text.now c.loop-turn.at (or_from _ _ (i.2 ∙ c.if-not-arrow.true) (ne_eqb _ 45 (λ e. c.if-front-ne45.true (c.front.ensures ∙ e))))), (refl, all))
 
 pub chained-returns : goal.chained-returns
 unfolding chain_for concluded run
@@ -352,7 +352,7 @@ chained-returns m c xs p begins arrow held =
     let all : Holds c.loop-turn.sheet (xs ++ formula_words (implied i.0.before i.0.last.formula)) =
     same-words c.loop-turn.sheet (xs ++ (chain_words i.0.before ++ formula_words i.0.last.formula)) _ (ap (λ l. xs ++ l) (sym (implied-words i.0.before i.0.last.formula)))
     (regrouped c.loop-turn.sheet xs (chain_words i.0.before) (formula_words i.0.last.formula) i.4) in
-    (record { formula = implied i.0.before i.0.last.formula; arrow = false }, i.1 ∙ goes_on _ concluded _ _ i.0 _ (while-over arrow_goes_on (chain_next (disjunction c.args.self.now.names.now (nest c.args.self.now.names.now c.args.depth))) 65536 c.loop-turn._turn i.0 c.args.self.now.text.now c.loop-turn.at c.loop-turn-test.false), (refl, all))
+    (record { formula = implied i.0.before i.0.last.formula; arrow = false }, i.1 ∙ run_on _ concluded _ _ i.0 _ (while-over arrow_goes_on (chain_next (disjunction c.args.self.now.names.now (nest c.args.self.now.names.now c.args.depth))) 65536 c.loop-turn._turn i.0 c.args.self.now.text.now c.loop-turn.at c.loop-turn-test.false), (refl, all))
 
 pub chained-returns-in_err-arrow : goal.chained-returns-in_err-arrow
 unfolding chain_for chain_words
@@ -391,25 +391,25 @@ chained-loop-turn-preserved m c xs p begins arrow held =
 pub denied-returns-then-depth-eq0 : goal.denied-returns-then-depth-eq0
 unfolding denied run
 denied-returns-then-depth-eq0 m c xs held =
-    goes_on _ _ _ _ _ _ c.blanks.ensures ∙ stops _ _ _ _ _ (ap (λ r. run r c.args.self.now.text.now c.blanks.new.at) (no_deeper-atom c.args.self.now.names.now c.args.depth c.if-depth-eq0.true))
+    run_on _ _ _ _ _ _ c.blanks.ensures ∙ stops _ _ _ _ _ (ap (λ r. run r c.args.self.now.text.now c.blanks.new.at) (no_deeper-atom c.args.self.now.names.now c.args.depth c.if-depth-eq0.true))
 
 pub denied-returns-in_err-piece : goal.denied-returns-in_err-piece
 unfolding denied atom run
 denied-returns-in_err-piece m c xs held =
-    refused-by _ _ c.from_residual.result _ _ (goes_on _ _ _ _ _ _ c.blanks.ensures ∙ stops _ _ _ _ _ (ap (λ r. run r c.args.self.now.text.now c.blanks.new.at) (deeper-atom c.args.self.now.names.now c.args.depth c.if-depth-eq0.false) ∙ c.in_err-piece.ensures xs held)) c.from_residual.ensures.1
+    refused-by _ _ c.from_residual.result _ _ (run_on _ _ _ _ _ _ c.blanks.ensures ∙ stops _ _ _ _ _ (ap (λ r. run r c.args.self.now.text.now c.blanks.new.at) (deeper-atom c.args.self.now.names.now c.args.depth c.if-depth-eq0.false) ∙ c.in_err-piece.ensures xs held)) c.from_residual.ensures.1
 
 pub denied-returns-in_err-arrow : goal.denied-returns-in_err-arrow
 unfolding denied atom run
 denied-returns-in_err-arrow m c xs held =
     let a = c.in_ok-piece.ensures xs held in
-    refused-by _ _ c.from_residual-in_err-arrow.result _ _ (goes_on _ _ _ _ _ _ c.blanks.ensures ∙ goes_on _ _ _ _ _ _ (ap (λ r. run r c.args.self.now.text.now c.blanks.new.at) (deeper-atom c.args.self.now.names.now c.args.depth c.if-depth-eq0.false) ∙ a.1) ∙ stops _ _ _ _ _ (no-claim c.atom.new.sheet xs a.0 c.in_ok-piece.piece _ c.args.self.now.text.now c.atom.new.at a.2 (sym c.in_err-arrow.ensures))) c.from_residual-in_err-arrow.ensures.1
+    refused-by _ _ c.from_residual-in_err-arrow.result _ _ (run_on _ _ _ _ _ _ c.blanks.ensures ∙ run_on _ _ _ _ _ _ (ap (λ r. run r c.args.self.now.text.now c.blanks.new.at) (deeper-atom c.args.self.now.names.now c.args.depth c.if-depth-eq0.false) ∙ a.1) ∙ stops _ _ _ _ _ (no-claim c.atom.new.sheet xs a.0 c.in_ok-piece.piece _ c.args.self.now.text.now c.atom.new.at a.2 (sym c.in_err-arrow.ensures))) c.from_residual-in_err-arrow.ensures.1
 
 pub denied-returns : goal.denied-returns
 unfolding denied atom run formula_words
 denied-returns m c xs held =
     let a = c.in_ok-piece.ensures xs held in
     let q = claims c.atom.new.sheet xs a.0 c.in_ok-piece.piece c.in_ok-arrow.arrow c.args.self.now.text.now c.atom.new.at a.2 (sym c.in_ok-arrow.ensures) in
-    (OfClaim (record { formula = Not q.0.formula; arrow = q.0.arrow }), goes_on _ _ _ _ _ _ c.blanks.ensures ∙ goes_on _ _ _ _ _ _ (ap (λ r. run r c.args.self.now.text.now c.blanks.new.at) (deeper-atom c.args.self.now.names.now c.args.depth c.if-depth-eq0.false) ∙ a.1) ∙ goes_on _ _ _ _ _ _ q.1, (q.2.0, c.insert.ensures xs (formula_words q.0.formula) held.counted q.2.1))
+    (OfClaim (record { formula = Not q.0.formula; arrow = q.0.arrow }), run_on _ _ _ _ _ _ c.blanks.ensures ∙ run_on _ _ _ _ _ _ (ap (λ r. run r c.args.self.now.text.now c.blanks.new.at) (deeper-atom c.args.self.now.names.now c.args.depth c.if-depth-eq0.false) ∙ a.1) ∙ run_on _ _ _ _ _ _ q.1, (q.2.0, c.insert.ensures xs (formula_words q.0.formula) held.counted q.2.1))
 
 pub from_word-returns-then-is_word : goal.from_word-returns-then-is_word
 unfolding from_word
@@ -425,7 +425,7 @@ pub from_word-returns : goal.from_word-returns
 unfolding from_word
 from_word-returns m c xs held =
     let t = c.in_ok-named.ensures xs held in
-    read_by _ _ _ c.from_primary.result _ (passed_over _ _ _ _ _ (sym c.if-is_word.ensures) ∙ goes_on _ _ _ _ _ _ t.1) (c.from_primary.ensures xs t.0 held.counted t.2)
+    read_by _ _ _ c.from_primary.result _ (passed_over _ _ _ _ _ (sym c.if-is_word.ensures) ∙ run_on _ _ _ _ _ _ t.1) (c.from_primary.ensures xs t.0 held.counted t.2)
 
 pub enclosed-returns-in_err-sign : goal.enclosed-returns-in_err-sign
 unfolding enclosed
@@ -435,32 +435,32 @@ enclosed-returns-in_err-sign m c xs held =
 pub enclosed-returns-then-depth-eq0 : goal.enclosed-returns-then-depth-eq0
 unfolding enclosed run
 enclosed-returns-then-depth-eq0 m c xs held =
-    goes_on _ _ _ _ _ _ c.in_ok-sign.ensures ∙ stops _ _ _ _ _ (ap (λ r. run r c.args.self.now.text.now c.sign.new.at) (no_deeper-formula c.args.self.now.names.now c.args.depth c.if-depth-eq0.true))
+    run_on _ _ _ _ _ _ c.in_ok-sign.ensures ∙ stops _ _ _ _ _ (ap (λ r. run r c.args.self.now.text.now c.sign.new.at) (no_deeper-formula c.args.self.now.names.now c.args.depth c.if-depth-eq0.true))
 
 pub enclosed-returns-in_err-piece : goal.enclosed-returns-in_err-piece
 unfolding enclosed
 enclosed-returns-in_err-piece m c xs held =
-    refused-by _ _ c.from_residual-in_err-piece.result _ _ (goes_on _ _ _ _ _ _ c.in_ok-sign.ensures ∙ stops _ _ _ _ _ (ap (λ r. run r c.args.self.now.text.now c.sign.new.at) (deeper-formula c.args.self.now.names.now c.args.depth c.if-depth-eq0.false) ∙ c.in_err-piece.ensures xs held)) c.from_residual-in_err-piece.ensures.1
+    refused-by _ _ c.from_residual-in_err-piece.result _ _ (run_on _ _ _ _ _ _ c.in_ok-sign.ensures ∙ stops _ _ _ _ _ (ap (λ r. run r c.args.self.now.text.now c.sign.new.at) (deeper-formula c.args.self.now.names.now c.args.depth c.if-depth-eq0.false) ∙ c.in_err-piece.ensures xs held)) c.from_residual-in_err-piece.ensures.1
 
 pub enclosed-returns-in_err-sign-2 : goal.enclosed-returns-in_err-sign-2
 unfolding enclosed
 enclosed-returns-in_err-sign-2 m c xs held =
     let a = c.in_ok-piece.ensures xs held in
-    refused-by _ _ c.from_residual-in_err-sign-2.result _ _ (goes_on _ _ _ _ _ _ c.in_ok-sign.ensures ∙ goes_on _ _ _ _ _ _ (ap (λ r. run r c.args.self.now.text.now c.sign.new.at) (deeper-formula c.args.self.now.names.now c.args.depth c.if-depth-eq0.false) ∙ a.1) ∙ stops _ _ _ _ _ c.in_err-sign-2.ensures) c.from_residual-in_err-sign-2.ensures.1
+    refused-by _ _ c.from_residual-in_err-sign-2.result _ _ (run_on _ _ _ _ _ _ c.in_ok-sign.ensures ∙ run_on _ _ _ _ _ _ (ap (λ r. run r c.args.self.now.text.now c.sign.new.at) (deeper-formula c.args.self.now.names.now c.args.depth c.if-depth-eq0.false) ∙ a.1) ∙ stops _ _ _ _ _ c.in_err-sign-2.ensures) c.from_residual-in_err-sign-2.ensures.1
 
 pub enclosed-returns-in-Term : goal.enclosed-returns-in-Term
 unfolding enclosed from_piece
 enclosed-returns-in-Term m c xs held =
     let a = c.in_ok-piece.ensures xs held in
     let q = term-stands c.equivalence.new.sheet xs a.0 c.in_ok-piece.piece a.2 c.in-Term.is in
-    read_by _ _ _ c.from_primary.result _ (goes_on _ _ _ _ _ _ c.in_ok-sign.ensures ∙ goes_on _ _ _ _ _ _ (ap (λ r. run r c.args.self.now.text.now c.sign.new.at) (deeper-formula c.args.self.now.names.now c.args.depth c.if-depth-eq0.false) ∙ a.1 ∙ ap (λ z. Read z c.equivalence.new.at) q.1) ∙ goes_on _ _ _ _ _ _ c.in_ok-sign-2.ensures) (c.from_primary.ensures xs q.0 held.counted q.2)
+    read_by _ _ _ c.from_primary.result _ (run_on _ _ _ _ _ _ c.in_ok-sign.ensures ∙ run_on _ _ _ _ _ _ (ap (λ r. run r c.args.self.now.text.now c.sign.new.at) (deeper-formula c.args.self.now.names.now c.args.depth c.if-depth-eq0.false) ∙ a.1 ∙ ap (λ z. Read z c.equivalence.new.at) q.1) ∙ run_on _ _ _ _ _ _ c.in_ok-sign-2.ensures) (c.from_primary.ensures xs q.0 held.counted q.2)
 
 pub enclosed-returns-in-Claim : goal.enclosed-returns-in-Claim
 unfolding enclosed from_piece run
 enclosed-returns-in-Claim m c xs held =
     let a = c.in_ok-piece.ensures xs held in
     let q = claim-stands c.equivalence.new.sheet xs a.0 c.in_ok-piece.piece c.in-Claim.arrow a.2 c.in-Claim.is in
-    (OfClaim q.0, goes_on _ _ _ _ _ _ c.in_ok-sign.ensures ∙ goes_on _ _ _ _ _ _ (ap (λ r. run r c.args.self.now.text.now c.sign.new.at) (deeper-formula c.args.self.now.names.now c.args.depth c.if-depth-eq0.false) ∙ a.1 ∙ ap (λ z. Read z c.equivalence.new.at) q.1) ∙ goes_on _ _ _ _ _ _ c.in_ok-sign-2.ensures, q.2)
+    (OfClaim q.0, run_on _ _ _ _ _ _ c.in_ok-sign.ensures ∙ run_on _ _ _ _ _ _ (ap (λ r. run r c.args.self.now.text.now c.sign.new.at) (deeper-formula c.args.self.now.names.now c.args.depth c.if-depth-eq0.false) ∙ a.1 ∙ ap (λ z. Read z c.equivalence.new.at) q.1) ∙ run_on _ _ _ _ _ _ c.in_ok-sign-2.ensures, q.2)
 
 pub atom-returns-in_err-word : goal.atom-returns-in_err-word
 unfolding atom_of
@@ -470,7 +470,7 @@ atom-returns-in_err-word m c xs held =
 pub atom-returns-then-is_letter : goal.atom-returns-then-is_letter
 unfolding atom_of
 atom-returns-then-is_letter m c xs held =
-    read_by _ _ _ c.from_word.result _ (chose _ _ _ _ _ (ap is_letter (sym c.front-c.ensures) ∙ sym c.if-is_letter.ensures) ∙ goes_on _ _ _ _ _ _ c.in_ok-word.ensures) (c.from_word.ensures xs held)
+    read_by _ _ _ c.from_word.result _ (chose _ _ _ _ _ (ap is_letter (sym c.front-c.ensures) ∙ sym c.if-is_letter.ensures) ∙ run_on _ _ _ _ _ _ c.in_ok-word.ensures) (c.from_word.ensures xs held)
 
 pub atom-returns-then-c-eq40 : goal.atom-returns-then-c-eq40
 unfolding atom_of
@@ -486,7 +486,7 @@ pub atom-returns-then-c-eq45 : goal.atom-returns-then-c-eq45
 unfolding atom_of
 atom-returns-then-c-eq45 m c xs held =
     let t = c.in_ok-negated.ensures xs held in
-    read_by _ _ _ c.from_product.result _ (passed_over _ _ _ _ _ (ap is_letter (sym c.front-c.ensures) ∙ sym c.if-is_letter.ensures) ∙ passed_over _ _ _ _ _ (ne_eqb _ 40 (λ e. c.if-c-eq40.false (c.front-c.ensures ∙ e))) ∙ chose _ _ _ _ _ (eq-eqb _ 45 (sym c.front-c.ensures ∙ c.if-c-eq45.true)) ∙ goes_on _ _ _ _ _ _ t.1) (c.from_product.ensures xs t.0 held.counted t.2)
+    read_by _ _ _ c.from_product.result _ (passed_over _ _ _ _ _ (ap is_letter (sym c.front-c.ensures) ∙ sym c.if-is_letter.ensures) ∙ passed_over _ _ _ _ _ (ne_eqb _ 40 (λ e. c.if-c-eq40.false (c.front-c.ensures ∙ e))) ∙ chose _ _ _ _ _ (eq-eqb _ 45 (sym c.front-c.ensures ∙ c.if-c-eq45.true)) ∙ run_on _ _ _ _ _ _ t.1) (c.from_product.ensures xs t.0 held.counted t.2)
 
 pub atom-returns-in_err-primary : goal.atom-returns-in_err-primary
 unfolding atom_of
@@ -497,4 +497,4 @@ pub atom-returns : goal.atom-returns
 unfolding atom_of
 atom-returns m c xs held =
     let t = c.in_ok-primary.ensures xs held in
-    read_by _ _ _ c.from_primary.result _ (passed_over _ _ _ _ _ (ap is_letter (sym c.front-c.ensures) ∙ sym c.if-is_letter.ensures) ∙ passed_over _ _ _ _ _ (ne_eqb _ 40 (λ e. c.if-c-eq40.false (c.front-c.ensures ∙ e))) ∙ passed_over _ _ _ _ _ (ne_eqb _ 45 (λ e. c.if-c-eq45.false (c.front-c.ensures ∙ e))) ∙ goes_on _ _ _ _ _ _ t.1) (c.from_primary.ensures xs t.0 held.counted t.2)
+    read_by _ _ _ c.from_primary.result _ (passed_over _ _ _ _ _ (ap is_letter (sym c.front-c.ensures) ∙ sym c.if-is_letter.ensures) ∙ passed_over _ _ _ _ _ (ne_eqb _ 40 (λ e. c.if-c-eq40.false (c.front-c.ensures ∙ e))) ∙ passed_over _ _ _ _ _ (ne_eqb _ 45 (λ e. c.if-c-eq45.false (c.front-c.ensures ∙ e))) ∙ run_on _ _ _ _ _ _ t.1) (c.from_primary.ensures xs t.0 held.counted t.2)

@@ -8,7 +8,7 @@ use Rattle.grammar.specs.Terms.{Claim}
 use Rattle.grammar.specs.Tokens.{sign, keyword}
 use Rattle.text.specs.Claims.{chain_words}
 use Rattle.text.specs.Sheet.{Holds, Behind}
-use Rattle.text.proofs.source.Source.+and_next_arrow_next_atom_chained_conjoined_conjunction_denied_disjoined_disjunction_enclosed_equated_equivalence_from_word_implication_or_next_same_next.Given as goal
+use Rattle.text.proofs.source.Source.+formula_levels.Given as goal
 
 abbrev pub invariant-conjoined-loop-turn : goal.invariant-conjoined-loop-turn
 invariant-conjoined-loop-turn l =

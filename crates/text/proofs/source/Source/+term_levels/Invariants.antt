@@ -5,7 +5,7 @@ use Rattle.grammar.specs.Nesting.{nest}
 use Rattle.grammar.specs.Reader.{run}
 use Rattle.grammar.specs.Terms.{times_for, times, plus_for, plus}
 use Rattle.text.specs.Sheet.{Holds, Behind}
-use Rattle.text.proofs.source.Source.+added_factor_group_leading_negated_plus_plus_next_primary_product_sum_taken_times_times_next.Given as goal
+use Rattle.text.proofs.source.Source.+term_levels.Given as goal
 
 abbrev pub invariant-times-loop-turn : goal.invariant-times-loop-turn
 invariant-times-loop-turn l =

@@ -12,8 +12,8 @@ use Rattle.grammar.specs.Tokens.{sign}
 use Rattle.grammar.proofs.Runs.{goes_on, stops, while-goes, while-stops, while-ended, while-over}
 use Rattle.text.proofs.Sheets.{same-words}
 use Rattle.text.proofs.Steps.{read_by, refused-by, chose, passed_over, closes, no_deeper-sum, deeper-sum, no_deeper-product, deeper-product, regrouped}
-use Rattle.text.proofs.source.Source.+added_factor_group_leading_negated_plus_plus_next_primary_product_sum_taken_times_times_next.Goals as goal
-use Rattle.text.proofs.source.Source.+added_factor_group_leading_negated_plus_plus_next_primary_product_sum_taken_times_times_next.Goals.{plus-else-c-ne43-via-then-c-ne43+else-c-ne45, plus-else-c-ne43-via-else-c-ne43, plus_next-else-may_arrow-via-then-may_arrow+else-front-eq62, plus_next-else-may_arrow-via-else-may_arrow}
+use Rattle.text.proofs.source.Source.+term_levels.Goals as goal
+use Rattle.text.proofs.source.Source.+term_levels.Goals.{plus-else-c-ne43-via-then-c-ne43+else-c-ne45, plus-else-c-ne43-via-else-c-ne43, plus_next-else-may_arrow-via-then-may_arrow+else-front-eq62, plus_next-else-may_arrow-via-else-may_arrow}
 
 pub added-returns-in_err-sign : goal.added-returns-in_err-sign
 unfolding added
