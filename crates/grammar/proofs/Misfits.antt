@@ -1,9 +1,8 @@
 -- A misfit is one for good.
-use Rattle.std.proofs.Common.{◌≡◌, ℕ, suc, ◌<◌, ◌≤◌, min, Bool, true, false, cond, eqb, ltb, leb, List, length, get_or, take, ℤ, Ok, Err, Result, sym, refl, ap, ◌∙◌, subst, arith, length-take}
+use Rattle.std.proofs.Common.{◌≡◌, ℕ, suc, ◌<◌, ◌≤◌, min, Bool, true, false, cond, eqb, ltb, leb, List, length, get_or, take, ℤ, Ok, Err, sym, refl, ap, ◌∙◌, subst, arith, length-take}
 use Rattle.std.proofs.lemmas.List.{get_or-take}
 use Rattle.std.proofs.lemmas.Bool.{ltb-true, ltb-false, lt-ltb, le-ltb, le-leb, eqb-false, ne_eqb, cond-true, cond-false}
 use Rattle.field.specs.Sentence.{Sentence}
-use Rattle.grammar.specs.declared.refusal.Refusal.{Refusal}
 use Rattle.grammar.specs.declared.refusal.Refusal.TheVariants.{Misfit, TooLarge}
 use Rattle.grammar.specs.Characters.{characters}
 use Rattle.grammar.specs.Meaning.{sentence_words}

@@ -1,10 +1,10 @@
 -- The loops of a text's words, a turn at a time.
-use Rattle.std.proofs.Common.{◌≡◌, ℕ, suc, ◌+◌, ◌-◌, ◌*◌, ◌<◌, ◌≤◌, true, false, cond, ◌&&◌, eqb, leb, List, [], ◌∷◌, length, get_or, drop, sym, refl, ap, ◌∙◌, add-one, drop-cons}
-use Rattle.std.proofs.lemmas.Bool.{cond-true, cond-false, eq-eqb, ne_eqb}
+use Rattle.std.proofs.Common.{◌≡◌, ℕ, suc, ◌+◌, ◌-◌, ◌*◌, ◌<◌, ◌≤◌, true, false, cond, ◌&&◌, leb, List, length, get_or, drop, sym, ap, ◌∙◌, add-one, drop-cons}
+use Rattle.std.proofs.lemmas.Bool.{eq-eqb, ne_eqb}
 use Rattle.grammar.specs.declared.fault.Fault.TheVariants.{Unfit}
 use Rattle.grammar.specs.declared.word.Word.{Word}
 use Rattle.grammar.specs.Characters.{is_blank, is_letter, is_digit}
-use Rattle.grammar.specs.Reader.{Reader, Give, Look, Pass, Refuse, Refused, Read, refusal_at, ◌>>=◌, while, next, run}
+use Rattle.grammar.specs.Reader.{Give, Look, Pass, Refuse, Refused, Read, refusal_at, ◌>>=◌, next, run}
 use Rattle.grammar.specs.Tokens.{blanks_for, exactly, with_letter, letters_for, digits_for}
 use Rattle.grammar.proofs.Runs.{while-again, while-ended, while-over}
 

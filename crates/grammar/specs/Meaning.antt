@@ -1,5 +1,5 @@
 -- What the signs of texts mean, and the words of terms, formulas and sentences. Assumes nothing.
-use Rattle.std.specs.Prelude.{ℕ, zero, suc, Bool, true, false, cond, List, [], ◌∷◌, ◌++◌, map, length, ℤ, pos, negsuc}
+use Rattle.std.specs.Prelude.{ℕ, zero, suc, Bool, true, false, List, [], ◌∷◌, ◌++◌, map, length, ℤ, pos, negsuc}
 use Rattle.field.specs.Sentence.{Term, Var, Num, Sum, Product, Formula, BelowZero, EqualsZero, Not, And, Or, Sentence}
 use Rattle.grammar.specs.declared.relation.Relation.{Relation}
 use Rattle.grammar.specs.declared.relation.Relation.TheVariants.{Below, AtMost, Equal, Unequal, Above, AtLeast}

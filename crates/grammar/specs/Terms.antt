@@ -1,5 +1,5 @@
 -- Readers of terms, a level of binding each, over the readers that stand one level deeper. Assumes nothing.
-use Rattle.std.specs.Prelude.{ℕ, zero, suc, ◌-◌, Bool, true, false, cond, not, ◌&&◌, ◌||◌, List, [], ◌∷◌, pos, codes, ◌==◌, nat_eq, nat_le}
+use Rattle.std.specs.Prelude.{ℕ, ◌-◌, Bool, true, false, cond, not, ◌&&◌, ◌||◌, List, pos, codes, ◌==◌, nat_eq, nat_le}
 use Rattle.field.specs.Sentence.{Term, Var, Num, Sum, Product, Formula}
 use Rattle.grammar.specs.declared.fault.Fault.TheVariants.{Unfit}
 use Rattle.grammar.specs.declared.word.Word.{Word}

@@ -1,5 +1,5 @@
 -- Counts that stop at 3,500: two numbers count alike where they are equal up to there, and sums and products keep this.
-use Rattle.std.proofs.Common.{◌≡◌, ℕ, zero, suc, ◌+◌, ◌*◌, ◌<◌, ◌≤◌, Bool, cond, ltb, sym, refl, ap, ◌∙◌, add_assoc, mul_assoc, mul_comm, add-mul, add_comm, mul-zero, mul-add, le-mul_of_pos_right, mul_left_comm, arith}
+use Rattle.std.proofs.Common.{◌≡◌, ℕ, zero, suc, ◌+◌, ◌*◌, ◌≤◌, ltb, sym, refl, ap, ◌∙◌, add_assoc, mul_assoc, mul_comm, add-mul, add_comm, mul-zero, mul-add, le-mul_of_pos_right, arith}
 use native.Mathlib.Nat.{add_left_comm}
 use native.Mathlib.Decide.{ℕ_discrete}
 use Rattle.std.proofs.lemmas.Bool.Decides.{nat_tests}

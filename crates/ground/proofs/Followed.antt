@@ -1,5 +1,5 @@
 -- What a formula's outline says is what its tree says.
-use Rattle.std.proofs.Common.{◌≡◌, ℕ, zero, suc, ◌+◌, ◌*◌, Bool, true, false, cond, eqb, ltb, leb, List, [], ◌∷◌, length, ℤ, pos, negsuc, Some, None, Option, sym, refl, ap, ◌∙◌, subst, ap₂, arith}
+use Rattle.std.proofs.Common.{◌≡◌, ℕ, zero, suc, ◌+◌, ◌*◌, Bool, true, false, cond, eqb, leb, List, [], ◌∷◌, length, ℤ, pos, negsuc, Some, None, Option, sym, refl, ap, ◌∙◌, subst, ap₂, arith}
 use Rattle.field.specs.Sentence.{Formula, BelowZero, EqualsZero, Not, And, Or, Sentence}
 use Rattle.words.specs.Reading.{Reading, Refused, Read, mapped, then, meant}
 use Rattle.words.specs.Words.{is_there, whole, count_of, quantifier_of, quantifiers_at, formula_at, sentence_of, is_sentence}
@@ -8,7 +8,7 @@ use Rattle.ground.specs.declared.outline.End.TheVariants.{ToYes, ToNo, Nowhere}
 use Rattle.ground.specs.declared.outline.Outline.{Outline}
 use Rattle.ground.specs.declared.verdict.Verdict.{Verdict}
 use Rattle.ground.specs.declared.verdict.Verdict.TheVariants.{GivenUp, NotASentence, NotDecided}
-use Rattle.ground.specs.Ground.{number_of, Tree, Yes, No, Lost, Ask, asks, tree_of, questions, by_sign, followed, answered, verdict_if, verdict_of}
+use Rattle.ground.specs.Ground.{number_of, Tree, Yes, No, asks, tree_of, questions, by_sign, followed, answered, verdict_if, verdict_of}
 use Rattle.ground.specs.Outline.{capped, onward, compared, negated, conjoined, outline_of, ending, concluded, concluded_by}
 use Rattle.ground.proofs.Counts.{capped-join, capped-below}
 

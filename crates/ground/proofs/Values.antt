@@ -1,9 +1,9 @@
 -- The number of a term and the outline of a formula, a kind at a time, from those of the parts.
-use Rattle.std.proofs.Common.{◌≡◌, ℕ, cond, ◌⊎◌, List, [], ◌∷◌, ℤ, pos, negsuc, ◌+ℤ◌, ◌*ℤ◌, Some, None, Option, refl, ap, inl, inr}
+use Rattle.std.proofs.Common.{◌≡◌, cond, ◌⊎◌, List, [], ◌∷◌, ℤ, pos, negsuc, ◌+ℤ◌, ◌*ℤ◌, Some, None, refl, ap, inl, inr}
 use lib.Dec.{leb-suc-zero}
 use Rattle.field.specs.Sentence.{Term, Var, Num, Sum, Product, Formula, BelowZero, EqualsZero, Not, And, Or}
 use Rattle.words.specs.declared.kind.Kind.{Kind}
-use Rattle.words.specs.Reading.{Reading, Refused, Read, mapped, then, two, meant, if_some}
+use Rattle.words.specs.Reading.{Reading, Refused, Read, mapped, two, meant, if_some}
 use Rattle.words.specs.Words.{term_by, formula_by, variable_of}
 use Rattle.words.specs.Words as words
 use Rattle.words.proofs.Words.{mapped-two}

@@ -1,10 +1,9 @@
 -- How long the arrays get, and how many polynomials of a table can be real. Assumes nothing.
-use mathlib.Core.Path.{◌≡◌, refl, ap, ◌∙◌}
+use mathlib.Core.Path.{◌≡◌, refl, ap}
 use mathlib.Core.List.{List, [], ◌∷◌}
-use Prim.Native.Nat.{ℕ, zero, suc, ◌+◌, ◌*◌, ◌≤◌, ◌<◌}
+use Prim.Native.Nat.{ℕ, zero, suc, ◌+◌, ◌≤◌, ◌<◌}
 use native.Mathlib.Omega.{arith}
 use lib.ListN.{length, get_or}
-use Rattle.field.specs.declared.sign.Sign.{Sign}
 use Rattle.sign_table.specs.Leadings.{Left, Plain, Real, turned_round, reals}
 use Rattle.sign_table.specs.Table.{without, none_left}
 use Rattle.sign_table.proofs.Lefts.{highest-within}

@@ -15,7 +15,7 @@ use Rattle.sign_table.specs.Facts.{Fact, Known, Unknown, Is, known}
 use Rattle.sign_table.specs.Leadings.{Left, Plain, turned_round, reals, filled_all}
 use Rattle.sign_table.specs.Table.{without, none_left}
 use Rattle.machine.specs.Machine.{Waiting, Phase, Settling, Branch, Above, At, Below, Question, Open, State, Looking, Returning, Run, resume, with_sign, with_fact, assumed, with_zero, begun, divisors, divisible, polys_below, fact_below, highest_place, settled, looked_at, step, start}
-use Rattle.machine.specs.Stacks.{Marks, Marked, Kept, QuestionCell, Pending, Memory, back, forth, less_one, deepest, lefts_back, polys_forth, frame_of, frames_of, ahead_of, phase_of, rest_of, current_of, marks_of, question_of, questions_of, Stacks, Facing, Holding, state_of, passed, shortened, signed, with_one_fact, entered, lefts_end, polys_end, facts_end, frames_end, looks_left, ahead_count, base_of, done_count, frame_end, Agree, Before, Fits, Asking, Ordered, Sound, Untouched, LeftWritten}
+use Rattle.machine.specs.Stacks.{Marks, Marked, Kept, QuestionCell, Pending, Memory, back, forth, less_one, deepest, lefts_back, polys_forth, frame_of, frames_of, ahead_of, phase_of, rest_of, current_of, marks_of, question_of, questions_of, Stacks, Facing, Holding, state_of, passed, shortened, signed, with_one_fact, entered, lefts_end, facts_end, frames_end, looks_left, ahead_count, base_of, done_count, frame_end, Agree, Before, Fits, Asking, Ordered, Sound, Untouched, LeftWritten}
 use Rattle.machine.specs.Theorems.{all_lefts}
 use Rattle.machine.proofs.Agree.{frames-agree, lefts-agree, facts-agree, rest-agrees, fits-agrees, questions-agree, ordered-agrees, ordered-before}
 

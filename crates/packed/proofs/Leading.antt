@@ -1,5 +1,5 @@
 -- The last monomials of a list whose keys rise, and those before them. Assumes nothing.
-use Rattle.std.proofs.Common.{◌≡◌, ℕ, zero, suc, ◌+◌, ◌-◌, ◌*◌, ◌^◌, ◌<◌, ◌≤◌, min, Bool, true, false, T, ltb, List, [], ◌∷◌, length, get_or, take, drop, ℤ, pos, sym, refl, ap, ◌∙◌, subst, ap₂, suc-le-suc, le_of_suc-le-suc, add-mul, add-one, arith, ltb→lt, nltb→le, length-drop, drop_of_length-le, length-take, drop-cons, le-ltb, lt-ltb}
+use Rattle.std.proofs.Common.{◌≡◌, ℕ, zero, suc, ◌+◌, ◌-◌, ◌*◌, ◌^◌, ◌<◌, ◌≤◌, Bool, true, false, ltb, List, [], ◌∷◌, length, take, drop, ℤ, pos, sym, refl, ap, ◌∙◌, subst, ap₂, suc-le-suc, le_of_suc-le-suc, add-mul, add-one, arith, ltb→lt, nltb→le, length-drop, drop_of_length-le, length-take, drop-cons, le-ltb, lt-ltb}
 use Rattle.std.proofs.lemmas.List.{get_or-drop}
 use Rattle.terms.specs.Monomial.{Monomial, monomial, raised, Rising}
 use Rattle.terms.specs.LeadingTerms.{last_key, count_below, degree_terms, length_terms, leading_key, leading_terms, lowered}

@@ -1,5 +1,5 @@
 -- Lists whose keys are lowered by one number. Assumes nothing.
-use Rattle.std.proofs.Common.{◌≡◌, ℕ, zero, suc, ◌+◌, ◌-◌, ◌^◌, ◌<◌, ◌≤◌, List, [], ◌∷◌, length, drop, pos, sym, refl, ap, ◌∙◌, ap₂, le_of_suc-le-suc, arith, length-drop}
+use Rattle.std.proofs.Common.{◌≡◌, ℕ, zero, suc, ◌+◌, ◌-◌, ◌^◌, ◌<◌, ◌≤◌, List, [], ◌∷◌, length, drop, pos, refl, ap, ◌∙◌, ap₂, le_of_suc-le-suc, arith, length-drop}
 use Rattle.std.proofs.lemmas.List.{get_or-drop}
 use Rattle.terms.specs.Monomial.{Monomial, monomial}
 use Rattle.terms.specs.LeadingTerms.{lowered}

@@ -1,9 +1,9 @@
 -- The monomial at a place of a list. Assumes nothing.
-use Rattle.std.proofs.Common.{◌≡◌, ℕ, zero, suc, ◌^◌, ◌<◌, ◌≤◌, List, [], ◌∷◌, length, get_or, ℤ, pos, sym, refl, ap, ◌∙◌, subst, le_of_suc-le-suc, arith, w64, to_z, of_z}
+use Rattle.std.proofs.Common.{◌≡◌, ℕ, zero, suc, ◌^◌, ◌<◌, ◌≤◌, List, [], ◌∷◌, length, get_or, ℤ, pos, refl, ap, le_of_suc-le-suc, arith, w64, to_z, of_z}
 use lib.Signed.{mag}
 use Rattle.std.proofs.lemmas.Int.{to_z-of_z}
 use Rattle.poly.specs.Modest.{magnitude}
-use Rattle.terms.specs.Monomial.{Monomial, monomial, Rising}
+use Rattle.terms.specs.Monomial.{Monomial, Rising}
 use Rattle.terms.specs.Sizes.{KeysBelow, SizesAtMost}
 use Rattle.terms.specs.Cells.{monomial_of, monomials_of}
 use Rattle.packed.specs.Terms.{term_at}

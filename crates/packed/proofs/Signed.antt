@@ -1,5 +1,5 @@
 -- Monomials and their negatives, and when two lists are the same. Assumes nothing.
-use Rattle.std.proofs.Common.{◌≡◌, ℕ, zero, suc, ◌+◌, ◌<◌, Bool, true, false, ◌&&◌, List, [], ◌∷◌, length, drop, neg_ℤ, sym, refl, ap, ◌∙◌, ap₂, le_of_suc-le-suc, arith}
+use Rattle.std.proofs.Common.{◌≡◌, ℕ, zero, suc, ◌+◌, ◌<◌, Bool, true, false, ◌&&◌, List, [], ◌∷◌, length, drop, neg_ℤ, refl, ap, ◌∙◌, ap₂, le_of_suc-le-suc, arith}
 use Rattle.terms.specs.Monomial.{Monomial, monomial}
 use Rattle.terms.specs.Operations.{neg_terms, same_terms}
 use Rattle.packed.specs.Terms.{term_at}

@@ -1,5 +1,5 @@
 -- The test for stored polynomials. Assumes nothing.
-use Rattle.std.proofs.Common.{◌≡◌, ℕ, suc, ◌-◌, ◌^◌, ◌≤◌, Bool, true, not, ◌&&◌, T, ltb, leb, List, [], ◌∷◌, length, ℤ, sym, refl, subst, le→leb, ltb→lt, lt→ltb, leb→le}
+use Rattle.std.proofs.Common.{◌≡◌, ℕ, suc, ◌-◌, ◌^◌, Bool, true, not, ◌&&◌, T, ltb, leb, List, [], ◌∷◌, length, ℤ, sym, subst, le→leb, ltb→lt, lt→ltb, leb→le}
 use Rattle.poly.specs.Poly.{is_zero_number}
 use Rattle.poly.specs.Modest.{magnitude}
 use Rattle.terms.specs.Monomial.{Monomial, Rising}

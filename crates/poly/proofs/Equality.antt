@@ -1,7 +1,6 @@
 -- Polynomials that are found the same have the same value everywhere. Assumes nothing.
 use mathlib.Core.Path.{◌≡◌, refl, sym, ◌∙◌, ap, ap₂}
 use mathlib.Core.List.{List, [], ◌∷◌}
-use Prim.Native.Nat.{zero}
 use lib.Dec.{T}
 use lib.ListN.{length}
 use lib.IntN.{ℤ, neg_ℤ, ◌+ℤ◌}

@@ -1,5 +1,5 @@
 -- What is promised of polynomials: how many variables they have, and, in every real closed field, their values. Assumes nothing.
-use Rattle.std.specs.Prelude.{◌≡◌, List, [], ◌∷◌, ℕ, zero, suc, ◌-◌, ◌≤◌, T, length, ℤ}
+use Rattle.std.specs.Prelude.{◌≡◌, List, [], ◌∷◌, ℕ, suc, ◌-◌, ◌≤◌, T, length, ℤ}
 use Rattle.field.specs.declared.sign.Sign.{Sign}
 use Rattle.field.specs.Sign.{sign_of}
 use Rattle.field.specs.Field.{RealClosedField}

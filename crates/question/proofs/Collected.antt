@@ -1,7 +1,6 @@
 -- Names noted one by one, and the polynomials that they name.
-use Rattle.std.proofs.Common.{◌≡◌, ℕ, zero, suc, ◌+◌, ◌*◌, ◌<◌, ◌≤◌, min, Bool, true, false, cond, not, ◌||◌, T, eqb, List, [], ◌∷◌, ◌++◌, map, reverse, length, get_or, drop, ℤ, pos, negsuc, Ok, Err, Result, sym, refl, ap, ◌∙◌, subst, subst₂, add-one, arith, eqb→eq, drop-cons}
+use Rattle.std.proofs.Common.{◌≡◌, ℕ, ◌+◌, ◌*◌, ◌<◌, ◌≤◌, min, Bool, true, false, cond, ◌||◌, T, eqb, List, [], ◌∷◌, ◌++◌, map, reverse, length, get_or, drop, ℤ, pos, negsuc, Ok, Err, Result, sym, refl, ap, ◌∙◌, subst, subst₂, add-one, arith, drop-cons}
 use mathlib.Core.List.{reverse-cons, reverse-append, map-append}
-use lib.Dec.{eqb_refl}
 use lib.ListN.{length-map}
 use Rattle.std.proofs.lemmas.List.{drop_all, length-reverse}
 use Rattle.std.proofs.lemmas.Bool.Decides.{nat_tests}

@@ -1,5 +1,5 @@
 -- A tree in lent memory stays what it is while more is asked, and a new question is the tree that it should be.
-use Rattle.std.proofs.Common.{◌≡◌, ℕ, zero, suc, ◌+◌, ◌-◌, ◌*◌, ◌<◌, ◌≤◌, min, Bool, true, false, cond, ◌&&◌, T, eqb, ltb, leb, List, [], ◌∷◌, ◌++◌, length, get_or, ℤ, pos, sym, refl, ap, ◌∙◌, subst, ap₂, append-nil, arith, lt→ltb, length-append, get_or-append-add}
+use Rattle.std.proofs.Common.{◌≡◌, ℕ, ◌+◌, ◌*◌, ◌<◌, ◌≤◌, List, [], ◌++◌, length, get_or, ℤ, pos, sym, refl, ap, ◌∙◌, subst, append-nil, arith, length-append, get_or-append-add}
 use lib.ListN.{get_or-append}
 use Rattle.std.proofs.lemmas.Bool.Decides.{nat_tests}
 use Rattle.poly.specs.Poly.{Poly, End}
@@ -10,7 +10,7 @@ use Rattle.question.specs.declared.tree.Tree.TheVariants.{Yes, No, GivenUp, Ques
 use Rattle.question.specs.declared.tree.Question.{Question}
 use Rattle.question.specs.Cells.{cell_of, tree_at, small_of}
 use Rattle.question.specs.Nodes.{node_at, node_cells, capped, weight_of, asking}
-use Rattle.question.specs.Denote.{Earlier, IsQuestion, IsTree}
+use Rattle.question.specs.Denote.{Earlier, IsTree}
 use Rattle.question.proofs.Nodes.{weight-inside}
 
 -- the question that five numbers are

@@ -2,14 +2,13 @@
 use Rattle.std.proofs.Common.{◌≡◌, ℕ, ◌+◌, ◌*◌, ◌<◌, ◌≤◌, min, List, length, get_or, ℤ, sym, refl, ap, ◌∙◌, subst, arith}
 use Rattle.field.specs.declared.sign.Sign.{Sign}
 use Rattle.field.specs.declared.sign.Sign.TheVariants.{Neg, Zero, Pos}
-use Rattle.poly.specs.Poly.{Poly, End}
 use Rattle.sign_table.specs.Tree as sign
 use Rattle.question.specs.declared.follow.Answer.{Answer}
 use Rattle.question.specs.declared.tree.Tree.{Tree}
 use Rattle.question.specs.declared.tree.Tree.TheVariants.{Yes, No, GivenUp, Question as Numbered}
 use Rattle.question.specs.Nodes.{node_at, chosen}
-use Rattle.question.specs.Denote.{Earlier, IsQuestion, IsTree}
-use Rattle.question.specs.Follow.{answer_by, answer_tree, Matches, Follows}
+use Rattle.question.specs.Denote.{Earlier, IsTree}
+use Rattle.question.specs.Follow.{answer_by, answer_tree, Follows}
 
 module _ (cells : List ℤ) (limit : ℕ) (t : Tree) (signs : List Sign) where
   pub follows-yes : t ≡ Yes → Follows cells limit t signs Answer.Yes

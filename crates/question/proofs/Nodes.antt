@@ -1,5 +1,5 @@
 -- Reading questions out of numbers, and what stays as more of them are asked.
-use Rattle.std.proofs.Common.{◌≡◌, ℕ, zero, suc, ◌+◌, ◌*◌, ◌<◌, ◌≤◌, Bool, true, false, cond, not, T, ltb, leb, List, [], ◌∷◌, ◌++◌, length, get_or, take, ℤ, pos, Some, None, Option, sym, refl, ap, ◌∙◌, arith, le→leb, lt→ltb, length-take, get_or-take}
+use Rattle.std.proofs.Common.{◌≡◌, ℕ, ◌+◌, ◌*◌, ◌<◌, ◌≤◌, Bool, true, false, cond, T, ltb, leb, List, length, get_or, take, ℤ, pos, Some, None, sym, refl, ◌∙◌, arith, le→leb, lt→ltb, length-take, get_or-take}
 use Rattle.arena.specs.Growth.{given}
 use Rattle.question.specs.declared.tree.Tree.TheVariants.{Question as Numbered}
 use Rattle.question.specs.Nodes.{node_at, weight_of}

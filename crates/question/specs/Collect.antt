@@ -1,5 +1,5 @@
 -- The polynomials that a tree asks about, by the numbers that name them. Assumes nothing.
-use Rattle.std.specs.Prelude.{◌≡◌, ℕ, ◌<◌, Bool, true, false, cond, ◌||◌, T, List, [], ◌∷◌, ◌++◌, map, reverse, length, get_or, ℤ, pos, Ok, Err, Result, ◌==◌, slice_index_or}
+use Rattle.std.specs.Prelude.{◌≡◌, ℕ, ◌<◌, Bool, false, cond, ◌||◌, T, List, [], ◌∷◌, ◌++◌, map, reverse, length, get_or, ℤ, pos, Ok, Err, Result, ◌==◌, slice_index_or}
 use Rattle.poly.specs.Poly.{Poly, End}
 use Rattle.poly.specs.Arithmetic.{same}
 use Rattle.sign_table.specs.Tree as sign

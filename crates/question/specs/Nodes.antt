@@ -1,5 +1,5 @@
 -- Questions as numbers, five each, one behind the other. Assumes nothing.
-use Rattle.std.specs.Prelude.{◌≡◌, ℕ, ◌+◌, ◌*◌, ◌≤◌, min, cond, List, [], ◌∷◌, length, ℤ, pos, Ok, Err, Result, nat_le, slice_index_or}
+use Rattle.std.specs.Prelude.{◌≡◌, ℕ, ◌+◌, ◌*◌, min, cond, List, [], ◌∷◌, length, ℤ, pos, Ok, Err, Result, nat_le, slice_index_or}
 use Rattle.field.specs.declared.sign.Sign.{Sign}
 use Rattle.sign_table.specs.Tree.{by_sign}
 use Rattle.arena.specs.Growth.{Grown, Kept}

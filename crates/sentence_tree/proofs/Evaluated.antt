@@ -1,5 +1,5 @@
 -- A term evaluated part by part.
-use Rattle.std.proofs.Common.{◌≡◌, ℕ, ◌+◌, ◌≤◌, true, List, length, ℤ, is_err, Some, None, Ok, Err, Option, Result, sym, refl, ap, ◌∙◌, subst, arith}
+use Rattle.std.proofs.Common.{◌≡◌, ℕ, ◌+◌, ◌≤◌, true, List, ℤ, is_err, Some, None, Ok, Err, Option, Result, sym, refl, ap, ◌∙◌, subst, arith}
 use Rattle.field.specs.Sentence.{Term}
 use Rattle.poly.specs.Modest.{Checked, TooBig, Fine, term_poly}
 use Rattle.words.specs.declared.reader.NotASentence.{NotASentence}

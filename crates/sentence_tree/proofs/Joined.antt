@@ -1,5 +1,5 @@
 -- Operands read where they lie, and what is stored in their place.
-use Rattle.std.proofs.Common.{◌≡◌, ℕ, ◌+◌, ◌≤◌, min, ◌⊎◌, List, [], ◌∷◌, ◌++◌, length, take, drop, ℤ, Some, None, Option, sym, refl, ap, ◌∙◌, subst, ap₂, inl, inr, append_assoc, append-nil, arith, length-append, take-append-drop, length-take, take-take}
+use Rattle.std.proofs.Common.{◌≡◌, ℕ, ◌+◌, ◌≤◌, min, ◌⊎◌, List, [], ◌++◌, length, take, drop, ℤ, Some, None, Option, sym, refl, ap, ◌∙◌, subst, ap₂, inl, inr, append_assoc, append-nil, arith, length-append, take-append-drop, length-take, take-take}
 use lib.Seq.{take-append-le, take-append_seam, drop-append_seam}
 use Rattle.poly.specs.Poly.{Poly}
 use Rattle.poly.specs.Modest.{Checked, TooBig, Fine, checked, on_both}

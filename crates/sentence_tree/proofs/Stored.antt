@@ -1,13 +1,12 @@
 -- What is packed is the polynomial that was computed, where that is modest.
-use Rattle.std.proofs.Common.{◌≡◌, ℕ, true, false, cond, List, length, ℤ, Some, None, sym, refl, ◌∙◌, subst}
+use Rattle.std.proofs.Common.{◌≡◌, ℕ, true, cond, List, ℤ, Some, sym, ◌∙◌, subst}
 use Rattle.poly.specs.Modest.{Fine, TooBig, modest}
 use Rattle.terms.specs.Monomial.{Monomial}
-use Rattle.terms.specs.ModestTerms.{modest_terms}
 use Rattle.terms.specs.Cells.{cells_of}
 use Rattle.terms.proofs.CellTrips.{cells-length}
 use Rattle.storage.specs.Storing.{Packed}
 use Rattle.storage.specs.Denoting.{Denotes}
-use Rattle.sentence_tree.specs.Placed.{Standing, Placed, Places}
+use Rattle.sentence_tree.specs.Placed.{Placed, Places}
 
 pub placed-modest : (ts : List Monomial) (count top : ℕ) (cells : List ℤ) (top' : ℕ) (cells' : List ℤ) → Packed count ts top cells top' cells' → Places ts (Some count) top cells top' cells'
 placed-modest ts count top cells top' cells' k n p checks =

@@ -1,8 +1,8 @@
 -- The cells of a modest list are a stored polynomial. Assumes nothing.
-use Rattle.std.proofs.Common.{◌≡◌, ℕ, zero, suc, ◌-◌, ◌^◌, ◌<◌, ◌≤◌, true, T, leb, List, [], ◌∷◌, length, get_or, ℤ, pos, sym, refl, ap, ◌∙◌, subst, le_of_suc-le-suc, arith}
+use Rattle.std.proofs.Common.{◌≡◌, ℕ, zero, suc, ◌-◌, ◌^◌, ◌<◌, T, leb, List, [], ◌∷◌, length, get_or, pos, sym, refl, ap, subst, le_of_suc-le-suc, arith}
 use Rattle.terms.specs.Monomial.{Monomial, Rising}
 use Rattle.terms.specs.ModestTerms.{small_terms, count_terms, modest_terms}
-use Rattle.terms.specs.Sizes.{KeysBelow, SizesAtMost}
+use Rattle.terms.specs.Sizes.{SizesAtMost}
 use Rattle.terms.specs.Cells.{cell_of, cells_of, monomials_of}
 use Rattle.terms.proofs.Tests.{T-both}
 use Rattle.terms.proofs.Bounds.{keys-rising}

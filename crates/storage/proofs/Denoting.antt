@@ -1,9 +1,9 @@
 -- The laws of lists that stand for polynomials, from those of the polynomials' own lists. Assumes nothing.
-use Rattle.std.proofs.Common.{◌≡◌, ℕ, zero, suc, ◌+◌, ◌-◌, ◌*◌, ◌/◌, ◌%◌, ◌^◌, ◌<◌, ◌≤◌, Bool, true, cond, ◌&&◌, T, eqb, ltb, leb, List, [], ◌∷◌, length, ℤ, sym, refl, ap, ◌∙◌, subst, ap₂, pow-suc, arith, eq-eqb, le-leb}
-use Rattle.poly.specs.Poly.{Poly, coefs, is_zero}
-use Rattle.poly.specs.Arithmetic.{constant, variable, sum, product, negative, same}
-use Rattle.poly.specs.Leading.{leading, without_leading, derivative, degree}
-use Rattle.poly.specs.Modest.{magnitude, modest}
+use Rattle.std.proofs.Common.{◌≡◌, ℕ, zero, suc, ◌+◌, ◌-◌, ◌/◌, ◌%◌, ◌^◌, ◌<◌, ◌≤◌, true, cond, ◌&&◌, T, eqb, ltb, leb, List, [], ◌∷◌, sym, refl, ap, ◌∙◌, subst, ap₂, pow-suc, arith, eq-eqb, le-leb}
+use Rattle.poly.specs.Poly.{Poly}
+use Rattle.poly.specs.Arithmetic.{constant, variable, sum, product, negative}
+use Rattle.poly.specs.Leading.{derivative}
+use Rattle.poly.specs.Modest.{magnitude}
 use Rattle.poly.specs.Division.{division_step}
 use Rattle.terms.specs.Monomial.{Monomial, constant_terms, flat}
 use Rattle.terms.specs.Operations.{add_terms, neg_terms, mul_terms, variable_terms, same_terms, is_zero_terms}
@@ -14,7 +14,7 @@ use Rattle.terms.specs.Sizes.{KeysBelow}
 use Rattle.terms.specs.Canon.{Canon}
 use Rattle.terms.proofs.Laws.{flat-laws, canon-laws, flat-operation-laws, flat-leading-laws, flat-modest-laws, flat-division-laws, size-laws}
 use Rattle.terms.proofs.Checks.{Canon-modest}
-use Rattle.storage.specs.Denoting.{Denotes, Checks, DenotingLaws}
+use Rattle.storage.specs.Denoting.{Checks, DenotingLaws}
 
 small-zero : (d : ℕ) → small_key d 0 ≡ true
 unfolding small_key

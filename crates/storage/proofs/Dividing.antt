@@ -1,8 +1,8 @@
 -- A division of stored polynomials, a step at a time. Assumes nothing.
-use Rattle.std.proofs.Common.{◌≡◌, ℕ, zero, suc, ◌+◌, ◌-◌, ◌/◌, ◌%◌, ◌^◌, ◌<◌, ◌≤◌, Bool, true, false, cond, not, ◌&&◌, T, eqb, ltb, leb, List, [], ◌∷◌, ◌++◌, length, take, drop, ℤ, is_err, Ok, Err, Result, sym, refl, ap, ◌∙◌, subst, ap₂, arith, length-take-le, take-take, take_at, drop_at, le-ltb, lt-ltb, leb-false, leb-true}
+use Rattle.std.proofs.Common.{◌≡◌, ℕ, zero, suc, ◌+◌, ◌-◌, ◌/◌, ◌%◌, ◌^◌, ◌<◌, ◌≤◌, Bool, true, false, cond, ◌&&◌, eqb, ltb, leb, List, [], ◌∷◌, length, take, drop, ℤ, is_err, Ok, Err, Result, sym, refl, ap, ◌∙◌, subst, ap₂, arith, length-take-le, take-take, take_at, drop_at, le-ltb, lt-ltb, leb-false, leb-true}
 use Rattle.std.proofs.lemmas.List.{drop-take}
 use Rattle.poly.specs.Poly.{Poly, coefs}
-use Rattle.poly.specs.Modest.{magnitude, modest, Checked, TooBig, Fine}
+use Rattle.poly.specs.Modest.{modest, Checked, TooBig, Fine}
 use Rattle.poly.specs.Arithmetic.{negative}
 use Rattle.poly.specs.Division.{Division, division_step, divide, odd, exchanged, remainder}
 use Rattle.terms.specs.Monomial.{Monomial}
@@ -20,7 +20,7 @@ use Rattle.storage.specs.declared.remainder.Quotient.{Quotient}
 use Rattle.storage.specs.declared.span.Span.{Span}
 use Rattle.storage.specs.Storing.{Packed}
 use Rattle.storage.specs.Spans.{cells_at, terms_at, Holds}
-use Rattle.storage.specs.Denoting.{Denotes, Checks}
+use Rattle.storage.specs.Denoting.{Denotes}
 use Rattle.storage.specs.Dividing.{Untouched, Dividing, Divided, Refused, divided, Remainder, NoRemainder, remains, exchanges_sign}
 use Rattle.storage.proofs.Cells.{length-cells}
 use Rattle.storage.proofs.Denoting.{denoting-laws}

@@ -3,8 +3,8 @@ use Rattle.std.specs.Prelude.{◌≡◌, ℕ, suc, ◌+◌, ◌%◌, ◌<◌, �
 use Rattle.field.specs.declared.sign.Sign.{Sign}
 use Rattle.field.specs.declared.sign.Sign.TheVariants.{Neg, Zero, Pos}
 use Rattle.poly.specs.Poly.{Poly, coefs}
-use Rattle.poly.specs.Modest.{Checked, TooBig, Fine}
-use Rattle.poly.specs.Division.{Division, divide, remainder}
+use Rattle.poly.specs.Modest.{TooBig, Fine}
+use Rattle.poly.specs.Division.{divide, remainder}
 use Rattle.terms.specs.Monomial.{Monomial}
 use Rattle.terms.specs.ModestTerms.{modest_terms}
 use Rattle.storage.specs.declared.span.Span.{Span}

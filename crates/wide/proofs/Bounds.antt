@@ -1,5 +1,5 @@
 -- The sum of two lists fits where their coefficients do. Assumes nothing.
-use Rattle.std.proofs.Common.{◌≡◌, ℕ, zero, suc, ◌+◌, ◌^◌, ◌<◌, ◌≤◌, true, false, List, [], ◌∷◌, length, ℤ, pos, negsuc, ◌+ℤ◌, ◌*ℤ◌, sym, refl, ap, ◌∙◌, subst, le_of_suc-le-suc, arith, w64, SFits, to_z, of_z, eq-eqb, ne_eqb}
+use Rattle.std.proofs.Common.{◌≡◌, ℕ, zero, suc, ◌+◌, ◌^◌, ◌<◌, true, false, List, [], ◌∷◌, length, ℤ, pos, negsuc, ◌+ℤ◌, ◌*ℤ◌, refl, subst, le_of_suc-le-suc, arith, w64, SFits, to_z, of_z, eq-eqb, ne_eqb}
 use lib.Signed.{mag}
 use Rattle.poly.specs.Poly.{is_zero_number}
 use Rattle.poly.specs.Modest.{magnitude}

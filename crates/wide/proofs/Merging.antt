@@ -1,5 +1,5 @@
 -- The next monomial of a sum. Assumes nothing.
-use Rattle.std.proofs.Common.{◌≡◌, ℕ, zero, suc, ◌+◌, ◌<◌, ◌≤◌, Bool, true, false, ltb, List, [], ◌∷◌, ◌++◌, length, get_or, drop, ℤ, pos, ◌+ℤ◌, sym, refl, ap, ◌∙◌, subst, ap₂, append_assoc, add-one, arith, length-append, drop_of_length-le, drop-cons, le-ltb, lt-ltb}
+use Rattle.std.proofs.Common.{◌≡◌, ℕ, ◌+◌, ◌<◌, ◌≤◌, Bool, true, false, ltb, List, [], ◌∷◌, ◌++◌, length, drop, pos, ◌+ℤ◌, sym, refl, ap, ◌∙◌, ap₂, append_assoc, add-one, arith, length-append, drop_of_length-le, drop-cons, le-ltb, lt-ltb}
 use lib.Seq.{drop-length}
 use Rattle.poly.specs.Poly.{is_zero_number}
 use Rattle.terms.specs.Monomial.{Monomial, monomial}

@@ -1,5 +1,5 @@
 -- A product is added up from the last monomial of the first factor to the first. Assumes nothing.
-use Rattle.std.proofs.Common.{◌≡◌, ℕ, zero, suc, ◌+◌, ◌-◌, ◌*◌, ◌^◌, ◌<◌, ◌≤◌, Bool, true, false, List, [], ◌∷◌, length, drop, ℤ, pos, negsuc, ◌*ℤ◌, neg_ℤ, sym, refl, ap, ◌∙◌, subst, ap₂, mul-le-mul_right, one-mul, arith, length-drop, drop_of_length-le}
+use Rattle.std.proofs.Common.{◌≡◌, ℕ, suc, ◌+◌, ◌-◌, ◌*◌, ◌^◌, ◌<◌, ◌≤◌, Bool, true, false, List, [], ◌∷◌, length, drop, ℤ, pos, negsuc, ◌*ℤ◌, neg_ℤ, sym, refl, ap, ◌∙◌, subst, ap₂, mul-le-mul_right, one-mul, arith, length-drop, drop_of_length-le}
 use Rattle.poly.specs.Modest.{magnitude}
 use Rattle.terms.specs.Monomial.{Monomial, monomial}
 use Rattle.terms.specs.Operations.{add_terms, neg_terms, scale_terms, add_product}

@@ -1,7 +1,7 @@
 -- Lists of keys and of coefficients, as long as each other, as one list. Assumes nothing.
-use Rattle.std.proofs.Common.{◌≡◌, ℕ, zero, suc, ◌+◌, ◌<◌, ◌≤◌, List, [], ◌∷◌, ◌++◌, length, get_or, take, set, ℤ, pos, nat_abs, sym, refl, ap, ◌∙◌, subst, le_of_suc-le-suc, arith, length-take-le}
+use Rattle.std.proofs.Common.{◌≡◌, ℕ, zero, suc, ◌+◌, ◌<◌, ◌≤◌, List, [], ◌∷◌, ◌++◌, length, get_or, take, set, ℤ, pos, nat_abs, refl, ap, ◌∙◌, le_of_suc-le-suc, arith, length-take-le}
 use Rattle.std.proofs.lemmas.List.{take_more_set, get_or-take}
-use Rattle.terms.specs.Monomial.{Monomial, monomial}
+use Rattle.terms.specs.Monomial.{monomial}
 use Rattle.packed.specs.Terms.{term_at}
 use Rattle.wide.specs.Pairs.{paired}
 

@@ -1,9 +1,9 @@
 -- The keys of what is computed rise. Assumes nothing.
-use Rattle.std.proofs.Common.{◌≡◌, ℕ, zero, suc, ◌+◌, ◌-◌, ◌*◌, ◌/◌, ◌^◌, ◌<◌, ◌≤◌, Bool, true, false, not, T, List, [], ◌∷◌, length, drop, ℤ, pos, sym, refl, ap, ◌∙◌, subst, suc-le-suc, one-mul, le-div_iff_mul-le, arith, length-drop, ne_eqb}
+use Rattle.std.proofs.Common.{◌≡◌, ℕ, zero, suc, ◌+◌, ◌-◌, ◌*◌, ◌/◌, ◌^◌, ◌<◌, ◌≤◌, Bool, true, false, not, T, List, [], ◌∷◌, length, drop, ℤ, pos, sym, ap, subst, suc-le-suc, one-mul, le-div_iff_mul-le, arith, length-drop, ne_eqb}
 use native.Mathlib.Nat.{one-le-pow}
 use Rattle.std.proofs.lemmas.List.{get_or-drop}
-use Rattle.terms.specs.Monomial.{Monomial, monomial, Rising, constant_terms}
-use Rattle.terms.specs.Operations.{neg_terms, add_product}
+use Rattle.terms.specs.Monomial.{Monomial, monomial, Rising}
+use Rattle.terms.specs.Operations.{add_product}
 use Rattle.terms.specs.LeadingTerms.{lowered, slopes, count_below}
 use Rattle.terms.proofs.Integers.{NotZero, not-zero-mul}
 use Rattle.terms.proofs.Rises.{rising-wider, rising-neg, rising-product}

@@ -1,5 +1,5 @@
 -- What a text of numbers reads as. A number has at most nine digits, perhaps after a minus; spaces and line ends part numbers. Assumes nothing.
-use Rattle.std.specs.Prelude.{◌≡◌, ℕ, suc, ◌+◌, ◌-◌, ◌*◌, Bool, true, false, cond, ◌||◌, List, [], ◌∷◌, ◌++◌, ℤ, pos, negsuc, neg_ℤ, Some, None, Option, ◌==◌, nat_le, nat_lt}
+use Rattle.std.specs.Prelude.{◌≡◌, ℕ, ◌+◌, ◌-◌, ◌*◌, Bool, true, false, cond, ◌||◌, List, [], ◌∷◌, ◌++◌, ℤ, pos, neg_ℤ, Some, None, Option, ◌==◌, nat_le, nat_lt}
 use Rattle.word_text.specs.declared.scan.Place.{Place}
 use Rattle.word_text.specs.declared.scan.Place.TheVariants.{Between, Minus, Inside}
 use Rattle.word_text.specs.declared.scan.Progress.{Progress}

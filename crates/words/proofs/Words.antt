@@ -1,5 +1,5 @@
 -- What words read as, a level at a time, and what is left of it where the parts are only passed over.
-use Rattle.std.proofs.Common.{◌≡◌, ℕ, zero, suc, ◌-◌, Bool, true, ◌⊎◌, List, ◌∷◌, ℤ, is_err, Ok, Err, Result, sym, refl, ap, ◌∙◌, subst, inl, inr, arith}
+use Rattle.std.proofs.Common.{◌≡◌, ℕ, zero, suc, ◌-◌, Bool, true, ◌⊎◌, List, ◌∷◌, ℤ, is_err, Ok, Err, Result, sym, refl, ap, ◌∙◌, inl, inr, arith}
 use Rattle.field.specs.Sentence.{Term, Sum, Product, Formula, BelowZero, EqualsZero, And, Or}
 use Rattle.words.specs.declared.kind.Kind.{Kind}
 use Rattle.words.specs.Kind.{kind_of}

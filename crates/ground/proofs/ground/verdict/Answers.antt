@@ -1,6 +1,6 @@
 -- The verdict by the number of quantifiers.
-use Rattle.std.proofs.Common.{◌≡◌, ℤ, sym, ap, ◌∙◌}
-use Rattle.words.specs.Reading.{Reading, Read, meant}
+use Rattle.std.proofs.Common.{◌≡◌, sym, ap, ◌∙◌}
+use Rattle.words.specs.Reading.{Read, meant}
 use Rattle.words.specs.Words.{count_of}
 use Rattle.ground.proofs.Followed.{ground-verdict, quantified-verdict, no-count-verdict}
 use Rattle.ground.proofs.ground.verdict.Goals as goal

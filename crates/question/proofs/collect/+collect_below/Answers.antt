@@ -1,5 +1,5 @@
 -- A tree's polynomials noted, one end after the other.
-use Rattle.std.proofs.Common.{◌≡◌, ◌*◌, ◌≤◌, min, length, take, Ok, Err, sym, refl, ap, ◌∙◌, subst, subst₂, arith, rules}
+use Rattle.std.proofs.Common.{◌≡◌, ◌*◌, ◌≤◌, min, length, take, Ok, Err, sym, refl, ◌∙◌, subst, subst₂, arith, rules}
 use Rattle.std.proofs.lemmas.Result.{err_from_is_err_and}
 use Rattle.arena.specs.declared.arena.Full.{Full}
 use Rattle.question.specs.Nodes.{node_at}

@@ -1,5 +1,5 @@
 -- A tree followed one question down.
-use Rattle.std.proofs.Common.{◌≡◌, ◌*◌, ◌≤◌, min, length, get_or, take, sym, ap, ◌∙◌, subst, arith}
+use Rattle.std.proofs.Common.{◌≡◌, ◌*◌, ◌≤◌, min, length, get_or, take, ap, ◌∙◌, subst, arith}
 use Rattle.field.specs.declared.sign.Sign.TheVariants.{Zero}
 use Rattle.question.specs.declared.follow.Answer.TheVariants.{GivenUp}
 use Rattle.question.specs.Nodes.{node_at, chosen}

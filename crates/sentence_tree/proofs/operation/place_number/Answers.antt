@@ -1,4 +1,4 @@
-use Rattle.std.proofs.Common.{◌≡◌, sym, ap, ◌∙◌, subst, w64, SFits, rules}
+use Rattle.std.proofs.Common.{sym, ap, ◌∙◌, subst, w64, SFits, rules}
 use Rattle.std.proofs.lemmas.Int.{to_z-of_z}
 use Rattle.poly.specs.Arithmetic.{constant}
 use Rattle.terms.specs.Monomial.{constant_terms}

@@ -1,10 +1,10 @@
 -- A term is evaluated as the definition reads it: the level below by its kind.
-use Rattle.std.proofs.Common.{◌≡◌, ℕ, ◌+◌, ◌-◌, ◌*◌, ◌≤◌, length, sym, refl, ap, ◌∙◌, subst, arith, w64, SFits, rules}
+use Rattle.std.proofs.Common.{◌+◌, ◌-◌, ◌≤◌, length, sym, refl, ap, ◌∙◌, subst, arith, w64, SFits, rules}
 use Rattle.std.proofs.lemmas.Int.{to_z-of_z}
 use Rattle.poly.specs.Arithmetic.{constant}
 use Rattle.field.specs.Sentence.{Var, Num, Sum, Product}
 use Rattle.poly.specs.Modest.{checked, term_poly}
-use Rattle.words.specs.Reading.{Read, then, mapped}
+use Rattle.words.specs.Reading.{then, mapped}
 use Rattle.words.specs.Words.{term_at, term_by}
 use Rattle.words.proofs.Words.{term-none, term-open, term-of-kind, no-term}
 use Rattle.sentence_tree.specs.Placed.{Placed}

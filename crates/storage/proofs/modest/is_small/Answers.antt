@@ -1,8 +1,8 @@
 -- Monomial by monomial.
-use Rattle.std.proofs.Common.{◌≡◌, ◌+◌, ◌^◌, ◌<◌, ◌&&◌, ltb, length, drop, sym, ap, ◌∙◌, arith}
+use Rattle.std.proofs.Common.{◌+◌, ◌^◌, ◌<◌, ◌&&◌, ltb, length, drop, sym, ap, ◌∙◌, arith}
 use Rattle.poly.specs.Modest.{magnitude}
 use Rattle.terms.specs.ModestTerms.{small_key, small_terms}
-use Rattle.wide.specs.Written.{written, monomial_in}
+use Rattle.wide.specs.Written.{written}
 use Rattle.storage.proofs.ModestSteps.{small-place, small-end}
 use Rattle.storage.proofs.modest.is_small.Goals as goal
 

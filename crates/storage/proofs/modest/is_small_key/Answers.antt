@@ -1,5 +1,5 @@
 -- The lowest digit, and then the others.
-use Rattle.std.proofs.Common.{◌≡◌, sym, ◌∙◌, arith}
+use Rattle.std.proofs.Common.{sym, ◌∙◌}
 use Rattle.storage.proofs.ModestSteps.{small-done, small-over, small-next}
 use Rattle.storage.proofs.modest.is_small_key.Goals as goal
 

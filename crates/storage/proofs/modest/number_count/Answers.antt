@@ -1,5 +1,5 @@
 -- The counts add up.
-use Rattle.std.proofs.Common.{◌≡◌, sym, ap, ◌∙◌, arith}
+use Rattle.std.proofs.Common.{arith}
 use Rattle.wide.specs.Written.{written}
 use Rattle.wide.proofs.Written.{written-most}
 use Rattle.storage.proofs.ModestSteps.{digits-end}

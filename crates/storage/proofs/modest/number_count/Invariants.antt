@@ -1,4 +1,4 @@
-use Rattle.std.proofs.Common.{◌≡◌, ◌+◌, ◌*◌, ◌≤◌, length, drop}
+use Rattle.std.proofs.Common.{◌≡◌, ◌+◌, ◌*◌, ◌≤◌, drop}
 use Rattle.terms.specs.ModestTerms.{last_digits}
 use Rattle.wide.specs.Written.{written}
 use Rattle.storage.proofs.modest.number_count.Given as goal

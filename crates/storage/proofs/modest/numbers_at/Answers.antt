@@ -1,5 +1,5 @@
 -- The next monomial differs only in the lowest digit, or this is the last of an innermost list.
-use Rattle.std.proofs.Common.{◌≡◌, ◌+◌, ◌/◌, ◌%◌, ◌<◌, length, drop, sym, ap, ◌∙◌, ap₂, arith}
+use Rattle.std.proofs.Common.{◌+◌, ◌/◌, ◌%◌, ◌<◌, length, drop, sym, ap, ◌∙◌, arith}
 use Rattle.terms.specs.ModestTerms.{last_digits}
 use Rattle.wide.specs.Written.{written}
 use Rattle.wide.proofs.Written.{written-most}

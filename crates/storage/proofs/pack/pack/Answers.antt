@@ -1,10 +1,9 @@
 -- The cells are put on top one after the other.
-use Rattle.std.proofs.Common.{◌≡◌, ℕ, ◌+◌, ◌-◌, ◌^◌, ◌<◌, ◌≤◌, T, length, take, sym, ap, ◌∙◌, subst, arith, length-take, take_all}
+use Rattle.std.proofs.Common.{◌≡◌, ◌-◌, ◌^◌, ◌<◌, T, length, take, sym, ap, ◌∙◌, subst, arith, length-take, take_all}
 use Rattle.poly.specs.Modest.{magnitude}
 use Rattle.terms.specs.Cells.{cell_of, cells_of}
 use Rattle.terms.proofs.Bounds.{keys-rising}
 use Rattle.terms.proofs.Modests.{modest-sizes}
-use Rattle.packed.specs.Terms.{term_at}
 use Rattle.packed.proofs.Places.{key-at, size-at, from_bits}
 use Rattle.arena.specs.Growth.{Grown}
 use Rattle.arena.proofs.Stores.{grown-next}

@@ -1,5 +1,5 @@
 -- Each turn of the loop is a step of the division.
-use Rattle.std.proofs.Common.{◌≡◌, ℕ, suc, ◌+◌, ◌<◌, ◌≤◌, length, sym, refl, ap, ◌∙◌, subst, ap₂, arith}
+use Rattle.std.proofs.Common.{◌≡◌, ℕ, ◌+◌, ◌<◌, sym, refl, ap, ◌∙◌, subst, arith}
 use borrow.Author.Tests.{true-leb}
 use Rattle.terms.specs.LeadingTerms.{length_terms}
 use Rattle.storage.specs.Spans.{Holds, terms_at}

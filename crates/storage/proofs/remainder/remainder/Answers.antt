@@ -1,5 +1,5 @@
 -- The sign is exchanged where the definition exchanges it.
-use Rattle.std.proofs.Common.{◌≡◌, ℕ, ◌+◌, ◌<◌, ◌≤◌, length, sym, refl, ap, ◌∙◌, subst, arith}
+use Rattle.std.proofs.Common.{sym, ◌∙◌, subst, arith}
 use borrow.Author.Tests.{both_ways}
 use Rattle.terms.specs.ModestTerms.{modest_terms}
 use Rattle.terms.specs.Operations.{neg_terms}

@@ -1,6 +1,5 @@
 -- What is written and what is still to come are the sum, and what is left of the list in the end is copied.
-use Rattle.std.proofs.Common.{◌≡◌, ℕ, ◌<◌, ◌≤◌, [], length, sym, ap, ◌∙◌, subst, arith, rules}
-use Rattle.terms.specs.Monomial.{Monomial}
+use Rattle.std.proofs.Common.{sym, ◌∙◌, subst, arith}
 use Rattle.terms.proofs.Bounds.{length-scaled}
 use Rattle.packed.specs.Terms.{terms_in}
 use Rattle.wide.specs.Written.{written}

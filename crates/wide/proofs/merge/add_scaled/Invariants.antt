@@ -1,5 +1,4 @@
-use Rattle.std.proofs.Common.{◌≡◌, ◌+◌, ◌-◌, ◌≤◌, ◌++◌, length, drop}
-use Rattle.terms.specs.Operations.{add_terms}
+use Rattle.std.proofs.Common.{◌+◌, ◌-◌, length}
 use Rattle.wide.specs.Written.{written}
 use Rattle.wide.specs.Merging.{Going, scaled_by}
 use Rattle.wide.proofs.merge.add_scaled.Given as goal

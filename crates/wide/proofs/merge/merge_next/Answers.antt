@@ -1,9 +1,9 @@
 -- The lower key comes first, and monomials with one key are added.
-use Rattle.std.proofs.Common.{◌≡◌, ℕ, ◌^◌, ◌<◌, [], ◌∷◌, ◌++◌, length, ◌+ℤ◌, sym, ap, ◌∙◌, subst, ap₂, arith}
+use Rattle.std.proofs.Common.{ℕ, ◌^◌, ◌<◌, [], ◌∷◌, ◌++◌, length, ◌+ℤ◌, sym, ap, ◌∙◌, subst, ap₂, arith}
 use Rattle.poly.specs.Modest.{magnitude}
 use Rattle.terms.specs.Monomial.{monomial}
 use Rattle.terms.specs.Operations.{put_term}
-use Rattle.packed.specs.Terms.{terms_in, term_at}
+use Rattle.packed.specs.Terms.{terms_in}
 use Rattle.packed.proofs.Places.{key-at}
 use Rattle.wide.specs.Written.{written}
 use Rattle.wide.specs.Merging.{scaled_by}

@@ -1,5 +1,5 @@
 -- A sum that is zero is left out.
-use Rattle.std.proofs.Common.{◌≡◌, true, false, [], ◌∷◌, ◌++◌, ℤ, ◌+ℤ◌, sym, ap, ◌∙◌, subst, ap₂, append-nil, w64, SFits, to_z, of_z, rules}
+use Rattle.std.proofs.Common.{◌≡◌, false, [], ◌∷◌, ◌++◌, ◌+ℤ◌, sym, ap, ◌∙◌, subst, ap₂, append-nil, w64, SFits, to_z, of_z, rules}
 use Rattle.std.proofs.lemmas.Int.{to_z-of_z}
 use Rattle.poly.specs.Poly.{is_zero_number}
 use Rattle.terms.specs.Monomial.{monomial}

@@ -1,5 +1,5 @@
 -- Keys are added and coefficients multiplied.
-use Rattle.std.proofs.Common.{◌≡◌, ◌+◌, ◌*ℤ◌, sym, ap, ◌∙◌, ap₂, w64, SFits, to_z, of_z, rules}
+use Rattle.std.proofs.Common.{◌+◌, ◌*ℤ◌, sym, ap, ◌∙◌, ap₂, w64, SFits, to_z, of_z, rules}
 use Rattle.std.proofs.lemmas.Int.{to_z-of_z}
 use Rattle.terms.specs.Monomial.{monomial}
 use Rattle.packed.specs.Terms.{terms_in}

@@ -1,10 +1,9 @@
 -- The exponent is small, and so is its product with the coefficient.
-use Rattle.std.proofs.Common.{◌≡◌, ℕ, ◌+◌, ◌-◌, ◌*◌, ◌/◌, ◌^◌, ◌<◌, ◌≤◌, ℤ, pos, ◌*ℤ◌, sym, ap, ◌∙◌, subst, ap₂, mul-le-mul_right, div-le_self, arith, w64, SFits, to_z, of_z}
+use Rattle.std.proofs.Common.{◌≡◌, ◌-◌, ◌/◌, ◌^◌, ◌<◌, ◌≤◌, pos, ◌*ℤ◌, sym, ap, ◌∙◌, subst, ap₂, mul-le-mul_right, div-le_self, arith, w64, SFits, to_z, of_z}
 use Rattle.std.proofs.lemmas.Int.{to_z_pos}
 use Rattle.poly.specs.Modest.{magnitude}
 use Rattle.terms.specs.Monomial.{monomial}
 use Rattle.terms.proofs.Bounds.{size-product}
-use Rattle.packed.specs.Terms.{terms_in, term_at}
 use Rattle.packed.proofs.Places.{from_bits}
 use Rattle.wide.proofs.Bounds.{from-size, size_fits}
 use Rattle.wide.proofs.operations.slope.Goals as goal

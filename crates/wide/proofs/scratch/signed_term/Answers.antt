@@ -1,5 +1,5 @@
 -- A monomial's coefficient is small, so its negative fits.
-use Rattle.std.proofs.Common.{◌≡◌, sym, ap, ◌∙◌, ap₂}
+use Rattle.std.proofs.Common.{sym, ap, ◌∙◌, ap₂}
 use Rattle.terms.specs.Monomial.{monomial}
 use Rattle.packed.specs.StretchTerms.{stretch_terms}
 use Rattle.packed.specs.Signed.{signed_number}

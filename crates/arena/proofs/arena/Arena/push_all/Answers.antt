@@ -1,5 +1,5 @@
 -- The numbers are put on top one after the other, and there is room for all.
-use Rattle.std.proofs.Common.{◌≡◌, get_or, take, pos, ◌∙◌, subst, arith, take_all, w64, SFits, rules}
+use Rattle.std.proofs.Common.{get_or, pos, ◌∙◌, subst, take_all, w64, SFits, rules}
 use Rattle.std.proofs.lemmas.Int.{to_z-of_z}
 use Rattle.arena.specs.Growth.{Grown}
 use Rattle.arena.proofs.Stores.{grown-next}

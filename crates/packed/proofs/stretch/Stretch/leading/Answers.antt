@@ -1,7 +1,7 @@
 -- From the first key that is high enough on, no key is lower.
-use Rattle.std.proofs.Common.{◌≡◌, ℕ, ◌^◌, ◌<◌, ◌≤◌, length, drop, sym, ap, ◌∙◌, subst, ap₂, arith}
+use Rattle.std.proofs.Common.{◌^◌, drop, ap, ◌∙◌, ap₂, arith}
 use Rattle.terms.specs.LeadingTerms.{lowered, count_below}
-use Rattle.packed.specs.Terms.{terms_in, term_at}
+use Rattle.packed.specs.Terms.{terms_in}
 use Rattle.packed.proofs.Leading.{below-most, rising-above}
 use Rattle.packed.proofs.Lowered.{view-rising}
 use Rattle.packed.proofs.stretch.Stretch.leading.Goals as goal

@@ -1,7 +1,7 @@
 -- The divisor's leading coefficient begins no higher than the dividend's.
-use Rattle.std.proofs.Common.{◌≡◌, ℕ, ◌+◌, ◌-◌, ◌*◌, ◌^◌, ◌<◌, ◌≤◌, length, drop, sym, ap, ◌∙◌, ap₂, arith}
-use Rattle.terms.specs.LeadingTerms.{lowered, count_below, length_terms, leading_key}
-use Rattle.packed.specs.Terms.{terms_in, term_at}
+use Rattle.std.proofs.Common.{◌^◌, ◌≤◌, drop, sym, ap, ◌∙◌, ap₂, arith}
+use Rattle.terms.specs.LeadingTerms.{lowered, count_below}
+use Rattle.packed.specs.Terms.{terms_in}
 use Rattle.packed.proofs.Leading.{below-most, rising-above, leading-gap, leading-raised}
 use Rattle.packed.proofs.Lowered.{view-rising}
 use Rattle.packed.proofs.stretch.Stretch.leading_over.Goals as goal
@@ -12,8 +12,8 @@ invariant_of-result c =
     let low : c.leading_key-2.result ≤ c.leading_key.result = omega (arith, gap, c.leading_key-2.ensures.value, c.leading_key.ensures.value) in record {
       inside = omega (arith, c.count_below-from.ensures, below-most c.leading_key.result (terms_in c.args.dividend));
       above = λ i h l.
-        let g = rising-above 0 (2 ^ 19) c.leading_key.result (terms_in c.args.dividend) i (view-rising c.args.dividend) (omega (arith, c.count_below-from.ensures, h)) l in
-        omega (arith, low, g);
+          let g = rising-above 0 (2 ^ 19) c.leading_key.result (terms_in c.args.dividend) i (view-rising c.args.dividend) (omega (arith, c.count_below-from.ensures, h)) l in
+          omega (arith, low, g);
     }
 
 pub returns : goal.returns

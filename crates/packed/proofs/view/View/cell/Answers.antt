@@ -1,5 +1,5 @@
 -- The number at a place is the monomial at that place.
-use Rattle.std.proofs.Common.{◌≡◌, ◌<◌, length, get_or, pos, sym, ap, ◌∙◌, arith, w64, SFits, rules}
+use Rattle.std.proofs.Common.{◌<◌, length, get_or, pos, sym, ap, ◌∙◌, arith, w64, SFits, rules}
 use Rattle.std.proofs.lemmas.Int.{to_z-of_z}
 use Rattle.terms.specs.Cells.{monomial_of}
 use Rattle.packed.proofs.Places.{length-monomials, monomial-at}

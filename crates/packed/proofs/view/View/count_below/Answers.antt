@@ -1,5 +1,5 @@
 -- Those passed are below, and the one where the count stops isn't.
-use Rattle.std.proofs.Common.{◌≡◌, ◌+◌, ◌<◌, ◌≤◌, length, sym, ap, ◌∙◌, arith}
+use Rattle.std.proofs.Common.{◌<◌, length, ◌∙◌, arith}
 use Rattle.packed.specs.Terms.{terms_in}
 use Rattle.packed.proofs.Leading.{below_more, below-stop, below_end}
 use Rattle.packed.proofs.view.View.count_below.Goals as goal

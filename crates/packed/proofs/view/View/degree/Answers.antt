@@ -1,5 +1,5 @@
 -- The last key's highest digit.
-use Rattle.std.proofs.Common.{◌≡◌, ◌/◌, sym, ap, ◌∙◌, ap₂, div-le_self, arith}
+use Rattle.std.proofs.Common.{◌/◌, ap₂, div-le_self, arith}
 use Rattle.packed.proofs.view.View.degree.Goals as goal
 
 pub returns : goal.returns

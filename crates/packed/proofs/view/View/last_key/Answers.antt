@@ -1,5 +1,5 @@
 -- The last of the keys.
-use Rattle.std.proofs.Common.{◌≡◌, ◌-◌, sym, ap, ◌∙◌, subst, arith}
+use Rattle.std.proofs.Common.{◌-◌, sym, ap, ◌∙◌, arith}
 use Rattle.packed.specs.Terms.{terms_in, term_at}
 use Rattle.packed.proofs.Leading.{last_none, last-at}
 use Rattle.packed.proofs.view.View.last_key.Goals as goal

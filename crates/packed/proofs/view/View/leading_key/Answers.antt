@@ -1,5 +1,5 @@
 -- At most the last key.
-use Rattle.std.proofs.Common.{◌≡◌, ◌*◌, ◌^◌, ◌<◌, length, sym, ap, ◌∙◌, ap₂, div-mul-le_self, arith}
+use Rattle.std.proofs.Common.{◌≡◌, ◌*◌, ◌^◌, ◌<◌, ap₂, div-mul-le_self, arith}
 use Rattle.terms.specs.LeadingTerms.{leading_key, last_key}
 use Rattle.packed.specs.Terms.{terms_in}
 use Rattle.packed.proofs.Leading.{last-below}

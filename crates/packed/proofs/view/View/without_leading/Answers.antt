@@ -1,6 +1,5 @@
 -- The first numbers of a stored polynomial are a stored polynomial.
-use Rattle.std.proofs.Common.{◌≡◌, ◌-◌, take, sym, ap, ◌∙◌, subst, arith}
-use Rattle.terms.specs.Cells.{monomials_of}
+use Rattle.std.proofs.Common.{◌≡◌, ◌-◌, take, ap, ◌∙◌, arith}
 use Rattle.terms.specs.LeadingTerms.{count_below}
 use Rattle.packed.specs.Terms.{terms_in}
 use Rattle.packed.proofs.Places.{length-monomials}

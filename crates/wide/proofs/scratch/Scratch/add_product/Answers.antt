@@ -1,5 +1,5 @@
 -- One merge for each monomial of the stretch, from the last to the first.
-use Rattle.std.proofs.Common.{◌≡◌, ◌≤◌, length, drop, sym, ap, ◌∙◌, arith}
+use Rattle.std.proofs.Common.{◌≡◌, drop, sym, ap, ◌∙◌, arith}
 use Rattle.terms.specs.Operations.{add_product}
 use Rattle.packed.specs.Terms.{terms_in}
 use Rattle.packed.specs.StretchTerms.{stretch_terms}

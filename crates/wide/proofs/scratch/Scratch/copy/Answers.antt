@@ -1,5 +1,5 @@
 -- A monomial at a time.
-use Rattle.std.proofs.Common.{◌≡◌, ◌^◌, ◌<◌, ◌≤◌, [], ◌∷◌, ◌++◌, length, take, pos, sym, ap, ◌∙◌, arith, length-take, take_all}
+use Rattle.std.proofs.Common.{◌^◌, ◌<◌, [], ◌∷◌, ◌++◌, length, take, pos, sym, ap, ◌∙◌, arith, length-take, take_all}
 use Rattle.std.proofs.lemmas.List.{take_more}
 use Rattle.terms.specs.Monomial.{monomial}
 use Rattle.packed.specs.StretchTerms.{stretch_terms}

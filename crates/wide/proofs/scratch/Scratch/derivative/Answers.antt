@@ -1,5 +1,5 @@
 -- The monomials that have the first variable, one at a time.
-use Rattle.std.proofs.Common.{◌≡◌, ℕ, ◌+◌, ◌^◌, ◌<◌, ◌≤◌, [], ◌∷◌, ◌++◌, length, drop, sym, ap, ◌∙◌, append-nil, arith, length-append, drop_of_length-le}
+use Rattle.std.proofs.Common.{◌^◌, ◌<◌, ◌≤◌, [], ◌∷◌, ◌++◌, length, drop, sym, ap, ◌∙◌, append-nil, arith, length-append, drop_of_length-le}
 use Rattle.terms.specs.LeadingTerms.{slopes, count_below}
 use Rattle.packed.specs.Terms.{terms_in, term_at}
 use Rattle.packed.proofs.Leading.{rising-above}

@@ -1,4 +1,4 @@
-use Rattle.std.proofs.Common.{◌≡◌, ◌^◌, ◌≤◌, ◌++◌, length, drop}
+use Rattle.std.proofs.Common.{◌≡◌, ◌≤◌, ◌++◌, length, drop}
 use Rattle.terms.specs.LeadingTerms.{slopes, derivative_terms}
 use Rattle.packed.specs.Terms.{terms_in}
 use Rattle.wide.specs.Written.{written}

@@ -1,5 +1,5 @@
 -- Two products are added up.
-use Rattle.std.proofs.Common.{◌≡◌, ◌^◌, true, [], sym, refl, ap, ◌∙◌, ap₂}
+use Rattle.std.proofs.Common.{◌^◌, true, [], refl, ap, ◌∙◌, ap₂}
 use Rattle.terms.specs.Operations.{add_product, neg_terms}
 use Rattle.packed.proofs.Lowered.{view-rising}
 use Rattle.wide.proofs.Rising.{stretch-rising, signed-rising, product-rising, none-rising}

@@ -1,5 +1,5 @@
 -- A copy with the other sign.
-use Rattle.std.proofs.Common.{◌≡◌, ap, ◌∙◌}
+use Rattle.std.proofs.Common.{ap, ◌∙◌}
 use Rattle.terms.specs.Operations.{neg_terms}
 use Rattle.wide.proofs.scratch.Scratch.negative.Goals as goal
 

@@ -1,5 +1,5 @@
 -- Zero has no monomial.
-use Rattle.std.proofs.Common.{◌≡◌, not, T, [], ◌∷◌, ◌++◌, sym, ap, ◌∙◌, subst, arith, w64, to_z, of_z}
+use Rattle.std.proofs.Common.{not, T, [], ◌∷◌, ◌++◌, sym, ap, ◌∙◌, subst, arith, w64, to_z, of_z}
 use Rattle.std.proofs.lemmas.Int.{to_z-of_z}
 use Rattle.terms.specs.Monomial.{monomial}
 use Rattle.wide.proofs.Bounds.{zero_bits, other-bits}

@@ -1,5 +1,5 @@
 -- Nothing is written before.
-use Rattle.std.proofs.Common.{◌≡◌, [], refl, ◌∙◌, ap₂}
+use Rattle.std.proofs.Common.{[], refl, ◌∙◌, ap₂}
 use Rattle.terms.specs.Operations.{add_product}
 use Rattle.packed.specs.Terms.{terms_in}
 use Rattle.packed.proofs.Lowered.{view-rising}

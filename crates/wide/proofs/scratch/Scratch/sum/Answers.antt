@@ -1,12 +1,11 @@
 -- One polynomial is copied, and the other added.
-use Rattle.std.proofs.Common.{◌≡◌, ◌^◌, pos, sym, ap, ◌∙◌, subst, ap₂, arith}
+use Rattle.std.proofs.Common.{◌^◌, pos, sym, ◌∙◌, subst, ap₂, arith}
 use Rattle.terms.specs.Monomial.{monomial}
 use Rattle.terms.specs.Operations.{add_terms}
 use Rattle.packed.specs.Terms.{terms_in}
 use Rattle.terms.proofs.Rises.{rising-add}
 use Rattle.packed.proofs.Lowered.{view-rising}
 use Rattle.wide.proofs.Rising.{wider}
-use Rattle.wide.specs.Merging.{Addable}
 use Rattle.wide.proofs.Multiplying.{Factor, factors-addable, scaled-one}
 use Rattle.wide.proofs.Factors.{view-factor}
 use Rattle.wide.proofs.scratch.Scratch.sum.Goals as goal

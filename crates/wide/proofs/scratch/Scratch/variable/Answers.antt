@@ -1,7 +1,6 @@
 -- The variable's digit is one.
 use Rattle.std.proofs.Common.{◌≡◌, suc, ◌-◌, ◌^◌, [], ◌∷◌, ◌++◌, pos, sym, ap, ◌∙◌, arith}
-use Rattle.terms.specs.Monomial.{Monomial, monomial}
-use Rattle.wide.specs.Written.{written}
+use Rattle.terms.specs.Monomial.{monomial}
 use Rattle.wide.proofs.Rising.{one-rising, none-rising}
 use Rattle.wide.proofs.Slopes.{variable-there, variable-none}
 use Rattle.wide.proofs.scratch.Scratch.variable.Goals as goal

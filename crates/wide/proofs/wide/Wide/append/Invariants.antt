@@ -1,4 +1,4 @@
-use Rattle.std.proofs.Common.{◌≡◌, ◌++◌, take, drop}
+use Rattle.std.proofs.Common.{◌≡◌, ◌++◌, drop}
 use Rattle.wide.specs.Written.{written}
 use Rattle.wide.proofs.wide.Wide.append.Given as goal
 

@@ -1,5 +1,5 @@
 -- Both parts take one more.
-use Rattle.std.proofs.Common.{◌≡◌, [], ◌∷◌, ◌++◌, length, take, set, ℤ, pos, nat_abs, sym, ap, ◌∙◌, arith, length-set, w64, SFits, to_z, of_z, rules}
+use Rattle.std.proofs.Common.{[], ◌∷◌, ◌++◌, nat_abs, sym, ap, ◌∙◌, arith, length-set, w64, SFits, to_z, rules}
 use Rattle.std.proofs.lemmas.Int.{to_z-of_z, to_z_pos}
 use Rattle.terms.specs.Monomial.{monomial}
 use Rattle.wide.specs.Written.{written}

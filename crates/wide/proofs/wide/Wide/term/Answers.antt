@@ -1,5 +1,5 @@
 -- A place of the list is that place of both parts.
-use Rattle.std.proofs.Common.{◌≡◌, ◌<◌, length, get_or, pos, nat_abs, sym, ap, ◌∙◌, ap₂, arith, w64, SFits, rules}
+use Rattle.std.proofs.Common.{get_or, pos, nat_abs, sym, ap, ◌∙◌, ap₂, arith, w64, SFits, rules}
 use Rattle.std.proofs.lemmas.Int.{to_z-of_z}
 use Rattle.terms.specs.Monomial.{monomial}
 use Rattle.wide.proofs.Pairs.{written_at}

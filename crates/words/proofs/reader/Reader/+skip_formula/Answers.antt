@@ -1,5 +1,4 @@
 -- A formula is passed over as the definition reads it: the level below by its kind.
-use Rattle.std.proofs.Common.{◌≡◌, ap}
 use Rattle.words.proofs.Words.{formula-none, formula-open, formula-of-kind, skipped-comparison, skipped-mapped, skipped-formula-pair, no-formula, refused-outcome}
 use Rattle.words.proofs.reader.Reader.+skip_formula.Goals as goal
 

@@ -1,5 +1,4 @@
 -- A term is passed over as the definition reads it: the level below by its kind.
-use Rattle.std.proofs.Common.{◌≡◌, ap}
 use Rattle.words.proofs.Words.{term-none, term-open, term-of-kind, skipped-term-pair, no-term, refused-outcome}
 use Rattle.words.proofs.reader.Reader.+skip_term.Goals as goal
 
