@@ -1,5 +1,5 @@
 -- The polynomial that is read in a slot. Assumes nothing.
-use Rattle.std.proofs.Common.{◌≡◌, ℕ, zero, suc, ◌+◌, ◌-◌, ◌*◌, ◌<◌, ◌≤◌, min, ◌⊎◌, List, [], ◌∷◌, length, get_or, take, drop, ℤ, pos, sym, refl, ap, ◌∙◌, subst, ap₂, inl, inr, arith, length-drop, length-take, get_or-take}
+use Rattle.std.proofs.Common.{◌≡◌, ℕ, zero, suc, ◌+◌, ◌*◌, ◌<◌, ◌≤◌, min, List, [], ◌∷◌, length, get_or, take, drop, ℤ, pos, sym, ap, ◌∙◌, inl, inr, arith, length-drop, length-take, get_or-take}
 use Rattle.std.proofs.lemmas.List.{ext_get_or, get_or-drop, length-take-le}
 use Rattle.question.specs.Cells.{small_of}
 use Rattle.stacks.specs.Written.{Put, Written, part}

@@ -1,11 +1,10 @@
 -- Slots hold polynomials, and so do their fronts. Assumes nothing.
-use Rattle.std.proofs.Common.{◌≡◌, ℕ, zero, suc, ◌+◌, ◌*◌, ◌^◌, ◌<◌, ◌≤◌, min, ◌⊎◌, List, [], ◌∷◌, length, get_or, take, drop, ℤ, pos, sym, refl, ap, ◌∙◌, subst, inl, inr, eq-or-lt_of_le, arith}
+use Rattle.std.proofs.Common.{◌≡◌, ℕ, suc, ◌+◌, ◌*◌, ◌<◌, ◌≤◌, min, ◌⊎◌, List, [], length, get_or, take, drop, ℤ, pos, sym, refl, ap, ◌∙◌, subst, inl, inr, eq-or-lt_of_le, arith}
 use Rattle.std.proofs.lemmas.List.{get_or_past}
 use Rattle.question.specs.Cells.{small_of}
 use Rattle.poly.specs.Poly.{Poly, End}
 use Rattle.terms.specs.Monomial.{Monomial, flat, Rising}
 use Rattle.terms.specs.Cells.{monomials_of}
-use Rattle.terms.specs.Canon.{Canon}
 use Rattle.terms.specs.Sizes.{SizesAtMost}
 use Rattle.terms.proofs.Laws.{canon-laws}
 use Rattle.terms.proofs.Tests.{by_less}

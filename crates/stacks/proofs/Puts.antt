@@ -1,5 +1,5 @@
 -- Numbers that are put one after the other, and what is read of the cells then. Assumes nothing.
-use Rattle.std.proofs.Common.{◌≡◌, ℕ, zero, suc, ◌+◌, ◌-◌, ◌*◌, ◌<◌, ◌≤◌, min, ◌≢◌, ◌⊎◌, List, [], ◌∷◌, length, get_or, take, drop, set, ℤ, pos, sym, refl, ap, ◌∙◌, subst, inl, inr, eq-or-lt_of_le, mul-le-mul_left, mul-suc, mul-add, arith, length-drop, length-set, length-take, get_or-set_other, get_or-take, get_or-set_same}
+use Rattle.std.proofs.Common.{◌≡◌, ℕ, suc, ◌+◌, ◌-◌, ◌*◌, ◌<◌, ◌≤◌, min, ◌≢◌, ◌⊎◌, List, length, get_or, take, drop, set, ℤ, pos, sym, refl, ap, ◌∙◌, inl, inr, eq-or-lt_of_le, mul-le-mul_left, mul-suc, arith, length-drop, length-set, length-take, get_or-set_other, get_or-take, get_or-set_same}
 use Rattle.std.proofs.lemmas.List.{ext_get_or, get_or-drop, length-take-le}
 use Rattle.stacks.specs.Written.{PutSome, Put, Written, part}
 

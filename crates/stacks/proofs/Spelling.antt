@@ -1,10 +1,8 @@
 -- The polynomial that is spelt from its own monomials is itself, and the first monomials of a polynomial are those of another. Assumes nothing.
-use Rattle.std.proofs.Common.{◌≡◌, ℕ, zero, suc, ◌+◌, ◌-◌, ◌*◌, ◌^◌, ◌<◌, ◌≤◌, Bool, true, false, not, T, List, [], ◌∷◌, ◌++◌, length, take, drop, ℤ, pos, sym, refl, ap, ◌∙◌, subst, ap₂, arith}
-use Rattle.poly.specs.Poly.{Poly, Number, End, Coef, from_coefs, coefs, is_zero, the_number, trim, all_zero}
+use Rattle.std.proofs.Common.{◌≡◌, ℕ, zero, suc, ◌+◌, ◌-◌, ◌^◌, ◌≤◌, T, List, [], ◌∷◌, ◌++◌, length, take, drop, pos, sym, refl, ap, ◌∙◌, subst, ap₂, arith}
+use Rattle.poly.specs.Poly.{Poly, Number, End, Coef, from_coefs, coefs, is_zero, the_number, trim}
 use Rattle.poly.specs.Value.{Depth}
-use Rattle.poly.proofs.Leading.{coefs-from_coefs}
 use Rattle.terms.specs.Monomial.{Monomial, monomial, flat, raised, constant_terms}
-use Rattle.terms.specs.Operations.{number_terms}
 use Rattle.terms.specs.LeadingTerms.{count_below, lowered}
 use Rattle.terms.specs.Canon.{Trimmed, AllOf, Canon}
 use Rattle.terms.proofs.Flat.{flats, flat-coefs, flat-from_coefs, flat-trimmed, zero-flat, flat-number, first-flats, other-flats, constant-cases}

@@ -1,19 +1,17 @@
 -- What is written as numbers reads back. Assumes nothing.
-use Rattle.std.proofs.Common.{◌≡◌, ℕ, ◌+◌, ◌-◌, ◌^◌, ◌<◌, Bool, true, false, cond, ◌&&◌, eqb, ltb, leb, List, [], ◌∷◌, ◌++◌, ℤ, pos, sym, refl, ap, ◌∙◌, ap₂, arith, w64, SFits, to_z, of_z, lt-ltb, ne_eqb, le-leb}
+use Rattle.std.proofs.Common.{◌≡◌, ℕ, ◌+◌, ◌-◌, ◌<◌, true, false, cond, ◌&&◌, eqb, leb, List, [], ◌∷◌, ℤ, pos, refl, ap, ◌∙◌, ap₂, arith, w64, SFits, to_z, of_z, lt-ltb, ne_eqb, le-leb}
 use lib.Signed.{mag}
 use Rattle.std.proofs.lemmas.Int.{to_z-of_z}
 use Rattle.field.specs.declared.sign.Sign.{Sign}
 use Rattle.field.specs.declared.sign.Sign.TheVariants.{Neg, Zero, Pos}
 use Rattle.field.specs.Sign.{sign_of}
-use Rattle.question.specs.declared.tree.Tree.{Tree}
 use Rattle.question.specs.declared.tree.Tree.TheVariants.{Yes, No, GivenUp, Question as Numbered}
-use Rattle.question.specs.Cells.{cell_of, tree_at, small_of}
+use Rattle.question.specs.Cells.{tree_at, small_of}
 use Rattle.stacks.specs.declared.marks.Left.{Left}
 use Rattle.stacks.specs.declared.marks.Fact.{Fact}
 use Rattle.stacks.specs.declared.marks.Frame.{Frame}
 use Rattle.stacks.specs.declared.marks.Marks.{Marks}
 use Rattle.stacks.specs.declared.marks.Branch.{Branch}
-use Rattle.stacks.specs.declared.marks.Branch.TheVariants.{Above, At, Below}
 use Rattle.stacks.specs.declared.marks.Question.{Question}
 use Rattle.stacks.specs.Codes.{sign_cell}
 use Rattle.stacks.specs.Values.{left_of, fact_of, frame_of, marks_of, branch_from, question_of}

@@ -1,5 +1,5 @@
 -- Which memory of the machine arrays of numbers are; n: the variables of the coefficients. Assumes nothing.
-use Rattle.std.specs.Prelude.{◌≡◌, ℕ, zero, suc, ◌+◌, List, [], take, ℤ}
+use Rattle.std.specs.Prelude.{ℕ, zero, suc, ◌+◌, List, take, ℤ}
 use Rattle.field.specs.declared.sign.Sign.{Sign}
 use Rattle.poly.specs.Poly.{Poly}
 use Rattle.poly.specs.Leading.{leading}

@@ -1,15 +1,14 @@
 -- What is promised of polynomials in slots. Assumes nothing.
-use Rattle.std.specs.Prelude.{◌≡◌, ℕ, suc, List, [], length, take, ℤ}
+use Rattle.std.specs.Prelude.{◌≡◌, ℕ, suc, List, [], take, ℤ}
 use Rattle.poly.specs.Poly.{Poly}
-use Rattle.terms.specs.Monomial.{Monomial, flat}
+use Rattle.terms.specs.Monomial.{Monomial}
 use Rattle.terms.specs.Cells.{monomials_of}
-use Rattle.terms.specs.Canon.{Canon}
 use Rattle.packed.specs.Stored.{Stored}
 use Rattle.storage.specs.Denoting.{Denotes}
 use Rattle.stacks.specs.Written.{Written}
 use Rattle.stacks.specs.Slots.{slot_in}
 use Rattle.stacks.specs.Spelt.{spelt}
-use Rattle.stacks.specs.Memories.{Holds, AllHold, poly_of}
+use Rattle.stacks.specs.Memories.{Holds, AllHold}
 
 pub record SlotLaws : Type 0 where
   -- a list of monomials stands for one polynomial, the one that is spelt from it

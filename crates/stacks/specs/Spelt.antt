@@ -1,5 +1,5 @@
 -- The polynomial that a list of monomials stands for. Assumes nothing.
-use Rattle.std.specs.Prelude.{◌≡◌, ℕ, zero, suc, ◌^◌, List, [], ◌∷◌, take, drop}
+use Rattle.std.specs.Prelude.{ℕ, zero, suc, ◌^◌, List, [], ◌∷◌, take, drop}
 use Rattle.poly.specs.Poly.{Poly, Number, from_coefs}
 use Rattle.terms.specs.Monomial.{Monomial}
 use Rattle.terms.specs.Operations.{number_terms}

@@ -1,5 +1,5 @@
 -- A derivative that is packed in an arena and then written to a slot. Assumes nothing.
-use Rattle.std.proofs.Common.{◌≡◌, ℕ, suc, ◌+◌, ◌<◌, ◌≤◌, true, false, List, [], ◌∷◌, ◌++◌, length, take, drop, ℤ, sym, refl, ap, ◌∙◌, subst, arith}
+use Rattle.std.proofs.Common.{◌≡◌, ℕ, suc, ◌+◌, ◌<◌, ◌≤◌, true, false, List, [], ◌∷◌, length, take, drop, ℤ, sym, refl, ap, ◌∙◌, subst, arith}
 use Rattle.std.proofs.lemmas.List.{take-take, take_at, drop_at, drop-take, length-take-le}
 use Rattle.arena.specs.Growth.{Grown}
 use Rattle.poly.specs.Leading.{derivative}
@@ -13,7 +13,7 @@ use Rattle.storage.specs.Denoting.{Denotes, Checks}
 use Rattle.storage.proofs.Denoting.{denoting-laws}
 use Rattle.stacks.specs.Written.{Written}
 use Rattle.stacks.specs.Slots.{slot_in}
-use Rattle.stacks.specs.Memories.{AllHold, poly_of, front_poly}
+use Rattle.stacks.specs.Memories.{AllHold, front_poly}
 use Rattle.stacks.proofs.Holding.{slot_laws}
 use Rattle.table_machine.specs.Told.{front_terms}
 use Rattle.table_machine.specs.Derived.{Derives}

@@ -1,5 +1,5 @@
 -- Where the run that counts is done with a branch. Assumes nothing.
-use Rattle.std.proofs.Common.{◌≡◌, ℕ, ◌+◌, ◌-◌, ◌<◌, ◌≤◌, List, [], ◌∷◌, Some, None, sym, refl, ap, ◌∙◌, arith}
+use Rattle.std.proofs.Common.{◌≡◌, ℕ, ◌-◌, ◌<◌, ◌≤◌, Some, None, ap, ◌∙◌, arith}
 use Rattle.sign_table.specs.Tree as sign
 use Rattle.sign_table.specs.Leadings.{reals}
 use Rattle.machine.specs.Machine.{counting}

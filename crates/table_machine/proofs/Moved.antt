@@ -1,8 +1,8 @@
 -- The steps of the machine that look at a polynomial, on its arrays. Assumes nothing.
-use Rattle.std.proofs.Common.{◌≡◌, ℕ, zero, suc, ◌+◌, ◌-◌, ◌<◌, ◌≤◌, Bool, true, false, List, length, take, ℤ, sym, refl, ap, ◌∙◌, subst, ap₂, arith, take_all}
+use Rattle.std.proofs.Common.{◌≡◌, ℕ, suc, ◌+◌, ◌-◌, ◌<◌, true, false, List, length, take, ℤ, sym, refl, ap, ◌∙◌, subst, ap₂, arith, take_all}
 use Rattle.field.specs.declared.sign.Sign.{Sign}
 use Rattle.field.specs.declared.sign.Sign.TheVariants.{Neg, Zero, Pos}
-use Rattle.poly.specs.Poly.{Poly, is_zero}
+use Rattle.poly.specs.Poly.{is_zero}
 use Rattle.poly.specs.Leading.{leading}
 use Rattle.sign_table.specs.Tree as sign
 use Rattle.sign_table.specs.Facts.{Unknown, Is}

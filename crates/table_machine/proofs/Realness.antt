@@ -11,7 +11,7 @@ use Rattle.sign_table.specs.Leadings.{Left, Plain, Real, reals, turned_round}
 use Rattle.machine.specs.Stacks.{back, forth}
 use Rattle.stacks.specs.declared.marks.Marks.{Marks}
 use Rattle.stacks.specs.Values.{left_in}
-use Rattle.stacks.specs.Memories.{Cells, AllHold, front_poly, left_from, left_with}
+use Rattle.stacks.specs.Memories.{Cells, AllHold, front_poly, left_with}
 use Rattle.table_machine.specs.declared.arrays.Top.{Top}
 use Rattle.table_machine.specs.Told.{front_terms}
 use Rattle.table_machine.specs.Reals.{table_left, reals_from, NextReal, Highest, FoundHighest, higher_of}

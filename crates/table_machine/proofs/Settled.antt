@@ -1,31 +1,28 @@
 -- The marks after a polynomial is settled, or has lost its leading coefficient. Assumes nothing.
-use Rattle.std.proofs.Common.{◌≡◌, ℕ, zero, suc, ◌+◌, ◌-◌, ◌*◌, ◌/◌, ◌^◌, ◌<◌, ◌≤◌, min, Bool, true, false, cond, eqb, List, [], ◌∷◌, length, take, ℤ, sym, refl, ap, ◌∙◌, subst, ap₂, arith, length-take, take_all}
+use Rattle.std.proofs.Common.{◌≡◌, ℕ, zero, suc, ◌+◌, ◌-◌, ◌^◌, ◌≤◌, min, Bool, true, false, cond, eqb, List, [], ◌∷◌, length, take, ℤ, sym, refl, ap, ◌∙◌, arith, length-take, take_all}
 use native.Mathlib.Nat.{zero-div}
 use Rattle.std.proofs.lemmas.List.{take-take}
 use Rattle.field.specs.declared.sign.Sign.{Sign}
 use Rattle.field.specs.declared.sign.Sign.TheVariants.{Neg, Zero, Pos}
 use Rattle.poly.specs.Poly.{Poly, End}
-use Rattle.poly.specs.Leading.{leading, without_leading, degree}
+use Rattle.poly.specs.Leading.{without_leading, degree}
 use Rattle.terms.specs.Monomial.{Monomial}
 use Rattle.terms.specs.Cells.{monomials_of}
 use Rattle.terms.specs.LeadingTerms.{degree_terms, prefix_terms, last_key, count_below, leading_key}
 use Rattle.packed.proofs.Leading.{take-monomials}
 use Rattle.storage.proofs.Denoting.{denoting-laws}
-use Rattle.sign_table.specs.Tree as sign
 use Rattle.sign_table.specs.Leadings as table
 use Rattle.sign_table.specs.Leadings.{left_of}
-use Rattle.machine.specs.Stacks.{Marked, less_one, passed, signed, LeftWritten, current_of}
-use Rattle.question.specs.declared.tree.Tree.{Tree}
+use Rattle.machine.specs.Stacks.{Marked, less_one, passed}
 use Rattle.stacks.specs.declared.marks.Left.{Left}
 use Rattle.stacks.specs.declared.marks.Marks.{Marks}
 use Rattle.stacks.specs.Written.{Written}
 use Rattle.stacks.specs.Values.{left_in}
 use Rattle.stacks.specs.Slots.{slot_in}
 use Rattle.stacks.specs.Spelt.{spelt}
-use Rattle.stacks.specs.Memories.{Cells, AllHold, poly_of, front_poly, left_from, left_with, marks_from, memory_of}
+use Rattle.stacks.specs.Memories.{Cells, AllHold, poly_of, front_poly, left_from, left_with, marks_from}
 use Rattle.stacks.proofs.Holding.{slot_laws}
 use Rattle.table_machine.specs.Told.{front_terms}
-use Rattle.table_machine.specs.Cells.{rewritten}
 use Rattle.table_machine.specs.Settling.{Settles, next_marks, shorter_marks, left_count, is_zero_sign}
 use Rattle.table_machine.specs.Moving.{PassesZero}
 use Rattle.table_machine.proofs.Telling.{front-denotes}

@@ -1,5 +1,5 @@
 -- Sound arrays fit. Assumes nothing.
-use Rattle.std.proofs.Common.{◌≡◌, ℕ, suc, ◌+◌, ◌-◌, ◌*◌, ◌<◌, ◌≤◌, sym, subst, arith}
+use Rattle.std.proofs.Common.{◌≡◌, ℕ, suc, ◌+◌, ◌-◌, ◌<◌, ◌≤◌, subst, arith}
 use Rattle.sign_table.specs.Tree as sign
 use Rattle.machine.specs.Stacks as stack
 use Rattle.machine.specs.Stacks.{Sound, Fits}

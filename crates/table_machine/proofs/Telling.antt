@@ -1,9 +1,9 @@
 -- What facts tell, by the monomials of what they are about. Assumes nothing.
-use Rattle.std.proofs.Common.{◌≡◌, ℕ, zero, suc, ◌+◌, ◌-◌, ◌<◌, ◌≤◌, Bool, true, false, List, [], ◌∷◌, length, take, ℤ, is_some, Some, None, Option, sym, refl, ap, ◌∙◌, subst, ap₂, arith}
+use Rattle.std.proofs.Common.{◌≡◌, ℕ, zero, suc, ◌-◌, ◌<◌, Bool, true, false, List, [], ◌∷◌, length, ℤ, is_some, Some, None, Option, sym, refl, ap, ◌∙◌, subst, ap₂, arith}
 use Rattle.field.specs.declared.sign.Sign.{Sign}
 use Rattle.field.specs.declared.sign.Sign.TheVariants.{Zero}
 use Rattle.field.specs.Sign.{flip, sign_of}
-use Rattle.poly.specs.Poly.{Poly, is_zero, the_number}
+use Rattle.poly.specs.Poly.{Poly, is_zero}
 use Rattle.poly.specs.Arithmetic.{negative, same}
 use Rattle.poly.specs.Leading.{leading}
 use Rattle.terms.specs.Monomial.{Monomial}
@@ -16,7 +16,7 @@ use Rattle.sign_table.specs.Facts.{Known, Unknown, Is, known, among}
 use Rattle.machine.specs.Stacks.{back}
 use Rattle.stacks.specs.declared.marks.Fact.{Fact}
 use Rattle.stacks.specs.Slots.{slot_in}
-use Rattle.stacks.specs.Memories.{Holds, AllHold, front_poly, fact_from}
+use Rattle.stacks.specs.Memories.{AllHold, front_poly, fact_from}
 use Rattle.stacks.proofs.Holding.{slot_laws}
 use Rattle.table_machine.specs.Told.{known_of, told_by, front_terms, leading_front}
 

@@ -1,6 +1,5 @@
 -- A derivative that is stored in a slot. Assumes nothing.
 use Rattle.std.specs.Prelude.{◌≡◌, ℕ, suc, true, false, List, ℤ, Ok, Err, Result}
-use Rattle.poly.specs.Poly.{Poly}
 use Rattle.poly.specs.Leading.{derivative}
 use Rattle.poly.specs.Modest.{modest}
 use Rattle.stacks.specs.Written.{Written}

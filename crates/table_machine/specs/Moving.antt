@@ -2,7 +2,7 @@
 use Rattle.std.specs.Prelude.{◌≡◌, ℕ, ◌+◌, ◌-◌, ◌*◌, ◌<◌, ◌≤◌, Bool, true, false, List, length, take, ℤ, Some, None, Option}
 use Rattle.field.specs.declared.sign.Sign.{Sign}
 use Rattle.field.specs.declared.sign.Sign.TheVariants.{Zero}
-use Rattle.poly.specs.Poly.{Poly, is_zero}
+use Rattle.poly.specs.Poly.{Poly}
 use Rattle.poly.specs.Leading.{leading}
 use Rattle.sign_table.specs.Tree as sign
 use Rattle.sign_table.specs.Facts.{Known, known}

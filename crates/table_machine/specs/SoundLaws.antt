@@ -1,5 +1,5 @@
 -- What sound arrays give to the steps of the machine. Assumes nothing.
-use Rattle.std.specs.Prelude.{◌≡◌, ℕ, ◌+◌, ◌-◌, ◌*◌, ◌<◌, ◌≤◌, length}
+use Rattle.std.specs.Prelude.{ℕ, ◌-◌, ◌*◌, ◌<◌, ◌≤◌, length}
 use Rattle.sign_table.specs.Tree as sign
 use Rattle.machine.specs.Stacks as stack
 use Rattle.machine.specs.Stacks.{Sound}

@@ -1,7 +1,7 @@
 -- What a reader's answer says where it stops, and where it goes on.
-use Rattle.std.proofs.Common.{◌≡◌, ℕ, List, IsErrAnd, Ok, Err, Result, sym, refl, ap, ◌∙◌}
+use Rattle.std.proofs.Common.{◌≡◌, ℕ, List, IsErrAnd, Ok, Err, Result, sym, ap, ◌∙◌}
 use Rattle.grammar.specs.declared.fault.Fault.{Fault}
-use Rattle.grammar.specs.Reader.{Reader, Outcome, Refused, Read, refusal_at, ◌>>=◌, run}
+use Rattle.grammar.specs.Reader.{Reader, Refused, refusal_at, ◌>>=◌, run}
 use Rattle.grammar.proofs.Runs.{stops}
 use Rattle.text.specs.Outcome.{outcome_of}
 

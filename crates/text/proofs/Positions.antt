@@ -1,5 +1,5 @@
 -- Where a name stands in a list, one by one.
-use Rattle.std.proofs.Common.{◌≡◌, ℕ, suc, ◌+◌, ◌<◌, ◌≤◌, Bool, true, false, cond, List, ◌∷◌, length, get_or, drop, Some, None, Option, sym, refl, ap, ◌∙◌, add-one, arith, drop-cons}
+use Rattle.std.proofs.Common.{◌≡◌, ℕ, suc, ◌+◌, ◌<◌, true, false, cond, List, length, get_or, drop, Some, None, Option, sym, refl, ap, ◌∙◌, add-one, arith, drop-cons}
 use Rattle.std.specs.Str.{bytes_eq}
 use Rattle.grammar.specs.declared.word.Word.{Word}
 use Rattle.grammar.specs.Tokens.{position}

@@ -1,5 +1,5 @@
 -- The words of a power.
-use Rattle.std.proofs.Common.{◌≡◌, ℕ, zero, suc, List, [], ◌∷◌, ◌++◌, ℤ, pos, sym, refl, ap, ◌∙◌, append_assoc, append-nil}
+use Rattle.std.proofs.Common.{◌≡◌, ℕ, zero, suc, ◌∷◌, ◌++◌, pos, sym, ap, ◌∙◌, append_assoc, append-nil}
 use Rattle.field.specs.Sentence.{Term}
 use Rattle.grammar.specs.Meaning.{power, term_words}
 use Rattle.text.specs.Sheet.{copies, products}

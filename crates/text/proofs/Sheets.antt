@@ -1,10 +1,10 @@
 -- A sheet of words after an edit.
-use Rattle.std.proofs.Common.{◌≡◌, ℕ, zero, suc, ◌+◌, ◌-◌, ◌<◌, ◌≤◌, min, ◌⊎◌, List, [], ◌∷◌, ◌++◌, length, get_or, take, drop, set, ℤ, sym, refl, ap, ◌∙◌, subst, ap₂, inl, inr, append_assoc, append-nil, add-one, arith, length-append, length-set, length-take, take-suc}
+use Rattle.std.proofs.Common.{◌≡◌, ℕ, zero, suc, ◌+◌, ◌-◌, ◌<◌, ◌≤◌, ◌⊎◌, List, [], ◌∷◌, ◌++◌, length, get_or, take, drop, set, ℤ, sym, refl, ap, ◌∙◌, subst, ap₂, inl, inr, append_assoc, arith, length-append, length-set, take-suc}
 use lib.Seq.{take-append_seam, drop-append_seam}
 use borrow.Rule.Slice.PartMut.{put_mid, mid_of, same_len_mid}
 use Rattle.std.proofs.lemmas.Bool.{cases_lt}
 use Rattle.text.specs.declared.sheet.Sheet.{Sheet}
-use Rattle.text.specs.Sheet.{Holds, Behind, Puts, Inserts, Repeats, Exchanges}
+use Rattle.text.specs.Sheet.{Holds, Behind, Puts}
 
 -- where there are too many words, it doesn't matter which
 pub too_many : (s : Sheet) (xs ys : List ℤ) → 1024 < length xs → 1024 < length ys → Holds s xs → Holds s ys

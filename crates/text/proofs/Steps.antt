@@ -1,12 +1,11 @@
 -- Steps of a reader on a text: what was looked at, what was chosen, what was read.
-use Rattle.std.proofs.Common.{◌≡◌, ℕ, zero, suc, ◌-◌, Bool, true, false, cond, List, ◌++◌, get_or, ℤ, IsErrAnd, Ok, Err, Result, sym, refl, ap, ◌∙◌, append_assoc, arith}
+use Rattle.std.proofs.Common.{◌≡◌, ℕ, zero, suc, ◌-◌, Bool, true, false, cond, List, ◌++◌, ℤ, IsErrAnd, Ok, Err, Result, sym, refl, ap, ◌∙◌, append_assoc, arith}
 use Rattle.grammar.specs.declared.fault.Fault.{Fault}
 use Rattle.grammar.specs.declared.fault.Fault.TheVariants.{Unfit, Deep}
-use Rattle.grammar.specs.declared.refusal.Refusal.{Refusal}
 use Rattle.grammar.specs.declared.word.Word.{Word}
 use Rattle.grammar.specs.Formulas.{claimed, atom, equivalence}
 use Rattle.grammar.specs.Nesting.{nest}
-use Rattle.grammar.specs.Reader.{Reader, Give, Look, Refuse, Outcome, Refused, Read, refusal_at, ◌>>=◌, run}
+use Rattle.grammar.specs.Reader.{Reader, Give, Refuse, Outcome, Refused, Read, refusal_at, ◌>>=◌, run}
 use Rattle.grammar.specs.Terms.{Claim, Piece, OfTerm, OfClaim, product, sum}
 use Rattle.grammar.proofs.Runs.{goes_on, stops}
 use Rattle.text.specs.declared.piece.Piece.{Piece as Kind}

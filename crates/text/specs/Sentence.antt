@@ -1,5 +1,5 @@
 -- What a sentence's answer says. Assumes nothing.
-use Rattle.std.specs.Prelude.{ℕ, Bool, List, [], ◌∷◌, ◌++◌, map, length, take, ℤ, pos, Result}
+use Rattle.std.specs.Prelude.{ℕ, Bool, [], ◌∷◌, map, take, ℤ, pos, Result}
 use Rattle.field.specs.Sentence.{Sentence}
 use Rattle.grammar.specs.declared.fault.Fault.{Fault}
 use Rattle.grammar.specs.Meaning.{quantifier_word, sentence_words}

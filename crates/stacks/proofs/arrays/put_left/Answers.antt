@@ -1,4 +1,4 @@
-use Rattle.std.proofs.Common.{◌≡◌, ◌*◌, ◌<◌, List, [], ◌∷◌, ℤ, refl, ap, ◌∙◌, rules}
+use Rattle.std.proofs.Common.{◌<◌, refl, rules}
 use Rattle.stacks.specs.Values.{left_of}
 use Rattle.stacks.proofs.Puts.{written}
 use Rattle.stacks.proofs.Trips.{left_back, trip}

@@ -1,4 +1,4 @@
-use Rattle.std.proofs.Common.{◌≡◌, ◌*◌, ◌<◌, List, [], ◌∷◌, ℤ, refl, ap, ◌∙◌, w64, SFits, rules}
+use Rattle.std.proofs.Common.{◌<◌, refl, w64, SFits, rules}
 use Rattle.stacks.specs.Values.{question_of}
 use Rattle.stacks.proofs.Puts.{written}
 use Rattle.stacks.proofs.Trips.{question-back, trip}

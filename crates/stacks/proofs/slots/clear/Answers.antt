@@ -1,4 +1,4 @@
-use Rattle.std.proofs.Common.{◌≡◌, ◌<◌, ◌≤◌, ◌≢◌, length, pos, ◌∙◌, arith, get_or-set_other, get_or-set_same, below_more}
+use Rattle.std.proofs.Common.{◌<◌, ◌≤◌, ◌≢◌, length, pos, ◌∙◌, arith, get_or-set_other, get_or-set_same, below_more}
 use Rattle.stacks.proofs.Holding.{zeros-hold}
 use Rattle.stacks.proofs.slots.clear.Goals as goal
 

@@ -1,4 +1,4 @@
-use Rattle.std.proofs.Common.{◌≡◌, ◌+◌, ◌≤◌, length, take, drop, sym, refl, ap, ◌∙◌, arith, rules}
+use Rattle.std.proofs.Common.{◌≡◌, ◌≤◌, length, take, drop, sym, refl, ap, ◌∙◌, arith}
 use Rattle.terms.specs.LeadingTerms.{derivative_terms}
 use Rattle.terms.specs.Cells.{cells_of}
 use Rattle.wide.specs.Written.{written}

@@ -1,7 +1,6 @@
 -- Keys and coefficients are compared.
-use Rattle.std.proofs.Common.{◌≡◌, Bool, true, false, ◌&&◌, eqb, ◌+ℤ◌, neg_ℤ, sym, ap, ◌∙◌, ap₂, eq-eqb, ne_eqb}
+use Rattle.std.proofs.Common.{◌≡◌, false, ◌&&◌, eqb, ◌+ℤ◌, neg_ℤ, sym, ap, ◌∙◌, ap₂, eq-eqb, ne_eqb}
 use Rattle.poly.specs.Poly.{is_zero_number}
-use Rattle.terms.specs.Monomial.{monomial}
 use Rattle.packed.specs.Terms.{term_at}
 use Rattle.packed.specs.StretchTerms.{stretch_terms}
 use Rattle.packed.specs.Signed.{same_monomial, signed_number}

@@ -1,9 +1,8 @@
 -- Monomial by monomial, and the lists must be equally long.
-use Rattle.std.proofs.Common.{◌≡◌, ◌+◌, ◌<◌, ◌≤◌, ◌&&◌, [], length, drop, sym, ap, ◌∙◌, ap₂, arith, drop_of_length-le}
+use Rattle.std.proofs.Common.{◌+◌, ◌<◌, ◌≤◌, ◌&&◌, length, drop, sym, ap, ◌∙◌, ap₂, arith, drop_of_length-le}
 use Rattle.terms.specs.Operations.{same_terms}
-use Rattle.packed.specs.Terms.{term_at}
 use Rattle.packed.specs.StretchTerms.{stretch_terms}
-use Rattle.packed.specs.Signed.{signed, same_monomial}
+use Rattle.packed.specs.Signed.{signed}
 use Rattle.packed.proofs.Signed.{length-signed, other_length, same_place, same_none}
 use Rattle.table_machine.proofs.equality.same_signed.Goals as goal
 

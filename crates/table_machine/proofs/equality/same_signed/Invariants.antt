@@ -1,4 +1,4 @@
-use Rattle.std.proofs.Common.{◌≡◌, length, drop}
+use Rattle.std.proofs.Common.{◌≡◌, drop}
 use Rattle.terms.specs.Operations.{same_terms}
 use Rattle.packed.specs.StretchTerms.{stretch_terms}
 use Rattle.packed.specs.Signed.{signed}

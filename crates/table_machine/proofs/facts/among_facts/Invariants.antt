@@ -1,4 +1,4 @@
-use Rattle.std.proofs.Common.{◌≡◌, ◌≤◌}
+use Rattle.std.proofs.Common.{◌≡◌}
 use Rattle.poly.specs.Leading.{leading}
 use Rattle.sign_table.specs.Facts.{among}
 use Rattle.machine.specs.Stacks.{back}

@@ -1,4 +1,4 @@
-use Rattle.std.proofs.Common.{◌≡◌, ◌-◌, ◌<◌, sym, ap, ◌∙◌, arith, rules}
+use Rattle.std.proofs.Common.{◌<◌, sym, ◌∙◌, arith}
 use Rattle.machine.specs.Stacks.{back}
 use Rattle.stacks.specs.Values.{fact_in}
 use Rattle.stacks.specs.Memories.{fact_from}

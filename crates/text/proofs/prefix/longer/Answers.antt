@@ -1,5 +1,5 @@
 -- The rest moves one place on.
-use Rattle.std.proofs.Common.{◌≡◌, suc, ◌+◌, false, [], ◌∷◌, length, get_or, take, sym, refl, ap, ◌∙◌, add-one, rules}
+use Rattle.std.proofs.Common.{◌≡◌, ◌+◌, false, [], ◌∷◌, length, get_or, take, refl, ap, ◌∙◌, add-one, rules}
 use Rattle.text.proofs.Prefixes.{three-of-four}
 use Rattle.text.proofs.prefix.longer.Goals as goal
 

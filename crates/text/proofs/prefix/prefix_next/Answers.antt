@@ -1,12 +1,11 @@
 -- The quantifier, then its name.
-use Rattle.std.proofs.Common.{◌≡◌, ◌+◌, ◌-◌, ◌≤◌, true, false, ◌||◌, eqb, [], ◌∷◌, get_or, take, sym, refl, ap, ◌∙◌, arith}
-use Rattle.std.proofs.lemmas.Bool.{eq-eqb, ne_eqb, or_from, or_left, or_right}
-use Rattle.grammar.specs.Reader.{run, Look, Give, Read, ◌>>=◌}
-use Rattle.grammar.specs.Text.{quantifier_of, prefix_next, begins_quantifier, prefix_for, quantifiers}
+use Rattle.std.proofs.Common.{◌≡◌, ◌-◌, take, sym, ap, ◌∙◌, arith}
+use Rattle.grammar.specs.Reader.{run, Look, Read}
+use Rattle.grammar.specs.Text.{quantifier_of, prefix_next}
 use Rattle.grammar.specs.Tokens.{new_name}
-use Rattle.grammar.proofs.Runs.{goes_on, stops, while-goes, while-stops, while-ended, while-over}
+use Rattle.grammar.proofs.Runs.{goes_on, stops}
 use Rattle.text.specs.Prefix.{prefix_of}
-use Rattle.text.proofs.Prefixes.{prefix-refused, prefixes-refused}
+use Rattle.text.proofs.Prefixes.{prefix-refused}
 use Rattle.text.proofs.prefix.prefix_next.Goals as goal
 
 pub returns-in_err-every : goal.returns-in_err-every

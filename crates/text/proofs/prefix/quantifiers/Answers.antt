@@ -1,12 +1,10 @@
 -- Quantifiers one by one.
-use Rattle.std.proofs.Common.{◌≡◌, ◌+◌, ◌-◌, ◌≤◌, true, false, ◌||◌, eqb, [], ◌∷◌, get_or, take, sym, refl, ap, ◌∙◌, arith}
+use Rattle.std.proofs.Common.{◌≡◌, true, ◌||◌, eqb, get_or, sym, refl, ◌∙◌, arith}
 use Rattle.std.proofs.lemmas.Bool.{eq-eqb, ne_eqb, or_from, or_left, or_right}
-use Rattle.grammar.specs.Reader.{run, Look, Give, Read, ◌>>=◌}
-use Rattle.grammar.specs.Text.{quantifier_of, prefix_next, begins_quantifier, prefix_for, quantifiers}
-use Rattle.grammar.specs.Tokens.{new_name}
-use Rattle.grammar.proofs.Runs.{goes_on, stops, while-goes, while-stops, while-ended, while-over}
+use Rattle.grammar.specs.Text.{prefix_next, begins_quantifier, prefix_for, quantifiers}
+use Rattle.grammar.proofs.Runs.{while-goes, while-stops, while-ended, while-over}
 use Rattle.text.specs.Prefix.{prefix_of}
-use Rattle.text.proofs.Prefixes.{prefix-refused, prefixes-refused}
+use Rattle.text.proofs.Prefixes.{prefixes-refused}
 use Rattle.text.proofs.prefix.quantifiers.Goals as goal
 use Rattle.text.proofs.prefix.quantifiers.Goals.{else-c-ne101-via-then-c-ne101+else-c-ne115, else-c-ne101-via-else-c-ne101}
 

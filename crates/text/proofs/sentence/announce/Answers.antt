@@ -1,8 +1,7 @@
 -- The words are put one by one.
-use Rattle.std.proofs.Common.{◌≡◌, ◌+◌, ◌<◌, ◌≤◌, Bool, false, List, [], ◌∷◌, ◌++◌, map, length, get_or, take, ℤ, pos, sym, refl, ap, ◌∙◌, arith, w64, SFits, rules}
+use Rattle.std.proofs.Common.{◌≡◌, ◌+◌, ◌<◌, [], ◌∷◌, ◌++◌, map, length, take, pos, ap, ◌∙◌, arith, w64, SFits, rules}
 use Rattle.std.proofs.lemmas.Int.{to_z-of_z}
 use Rattle.grammar.specs.Meaning.{quantifier_word}
-use Rattle.text.specs.Sheet.{Holds}
 use Rattle.text.proofs.Prefixes.{one-more-word}
 use Rattle.text.proofs.Sheets.{same-words}
 use Rattle.text.proofs.sentence.announce.Goals as goal

@@ -1,5 +1,5 @@
 -- The quantifiers, a colon, and a formula.
-use Rattle.std.proofs.Common.{◌≡◌, ◌-◌, ◌≤◌, min, ◌∷◌, ◌++◌, map, length, take, pos, sym, refl, ap, ◌∙◌, arith, length-take, rules}
+use Rattle.std.proofs.Common.{◌≡◌, ◌-◌, ◌∷◌, ◌++◌, map, length, take, pos, sym, ap, ◌∙◌, arith, length-take, rules}
 use Rattle.grammar.specs.Formulas.{equivalence}
 use Rattle.grammar.specs.Meaning.{quantifier_word, formula_words, sentence_words}
 use Rattle.grammar.specs.Nesting.{nest}

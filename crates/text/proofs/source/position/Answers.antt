@@ -1,5 +1,5 @@
 -- The names are looked through from the front.
-use Rattle.std.proofs.Common.{true, false, sym, ◌∙◌}
+use Rattle.std.proofs.Common.{sym, ◌∙◌}
 use Rattle.std.proofs.lemmas.List.{at_drop_all}
 use Rattle.grammar.specs.Tokens.{position}
 use Rattle.text.specs.Outcome.{later_by}

@@ -1,4 +1,4 @@
-use Rattle.std.proofs.Common.{◌≡◌, ◌+◌, sym, refl, ap, ◌∙◌, subst}
+use Rattle.std.proofs.Common.{refl}
 use Rattle.table_machine.specs.Cells.{cells_of}
 use Rattle.table_machine.proofs.Moved.{moves-asked, explored-slots, explored-long}
 use Rattle.table_machine.proofs.arrays.Arrays.ask.Goals as goal

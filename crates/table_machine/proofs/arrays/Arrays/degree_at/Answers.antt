@@ -1,4 +1,4 @@
-use Rattle.std.proofs.Common.{◌≡◌, ◌+◌, sym, ap, ◌∙◌}
+use Rattle.std.proofs.Common.{◌+◌, ap, ◌∙◌}
 use Rattle.terms.specs.LeadingTerms.{degree_terms}
 use Rattle.table_machine.specs.Cells.{cells_of}
 use Rattle.table_machine.specs.Told.{front_terms}

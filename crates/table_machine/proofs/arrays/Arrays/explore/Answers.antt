@@ -1,8 +1,4 @@
-use Rattle.std.proofs.Common.{◌≡◌, length, sym, refl, ap, ◌∙◌, subst}
-use Rattle.stacks.specs.Written.{Written}
-use Rattle.stacks.specs.Values.{fact_in, question_in}
-use Rattle.table_machine.specs.Cells.{cells_of, rewritten}
-use Rattle.table_machine.specs.Settling.{Settles}
+use Rattle.table_machine.specs.Cells.{cells_of}
 use Rattle.table_machine.proofs.Moved.{explored}
 use Rattle.table_machine.proofs.arrays.Arrays.explore.Goals as goal
 

@@ -1,4 +1,4 @@
-use Rattle.std.proofs.Common.{◌≡◌, suc, ◌+◌, ap, ◌∙◌}
+use Rattle.std.proofs.Common.{suc, ◌+◌, ap, ◌∙◌}
 use Rattle.terms.specs.Operations.{is_zero_terms}
 use Rattle.storage.proofs.Denoting.{denoting-laws}
 use Rattle.table_machine.specs.Told.{front_terms}

@@ -1,5 +1,4 @@
-use Rattle.std.proofs.Common.{◌≡◌, ◌+◌, length, sym, refl, ap, ◌∙◌, subst, arith}
-use Rattle.stacks.specs.Memories.{Cells}
+use Rattle.std.proofs.Common.{length, sym, ap, subst, arith}
 use Rattle.table_machine.specs.Cells.{cells_of}
 use Rattle.table_machine.specs.Moving.{Moves}
 use Rattle.table_machine.proofs.Moved.{moves-zero, moves-known, facing_at}

@@ -1,4 +1,4 @@
-use Rattle.std.proofs.Common.{◌≡◌, ◌-◌, sym, refl, ap, ◌∙◌, rules}
+use Rattle.std.proofs.Common.{◌-◌, sym, refl, ap, ◌∙◌}
 use Rattle.table_machine.specs.Cells.{cells_of}
 use Rattle.table_machine.specs.Moving.{is_below}
 use Rattle.table_machine.proofs.Moved.{returned-above, returned-at, explored-slots, explored-long, finishes}

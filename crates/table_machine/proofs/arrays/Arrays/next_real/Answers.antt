@@ -1,5 +1,4 @@
-use Rattle.std.proofs.Common.{◌≡◌, ◌+◌, sym, ap, ◌∙◌, arith}
-use Rattle.stacks.specs.Values.{left_in}
+use Rattle.std.proofs.Common.{◌≡◌, sym, ap, ◌∙◌, arith}
 use Rattle.table_machine.specs.Cells.{cells_of}
 use Rattle.table_machine.specs.Reals.{reals_from}
 use Rattle.table_machine.proofs.Realness.{plain-passed}

@@ -1,4 +1,3 @@
-use Rattle.std.proofs.Common.{rules}
 use Rattle.table_machine.specs.Cells.{cells_of}
 use Rattle.table_machine.proofs.Foreseen.{none-to-look, none-real, none_below}
 use Rattle.table_machine.proofs.arrays.Arrays.outlook.Goals as goal

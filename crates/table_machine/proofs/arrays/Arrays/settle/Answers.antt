@@ -1,4 +1,4 @@
-use Rattle.std.proofs.Common.{◌≡◌, sym, refl, ap, ◌∙◌, rules}
+use Rattle.std.proofs.Common.{sym, rules}
 use Rattle.table_machine.specs.Cells.{cells_of}
 use Rattle.table_machine.proofs.Settled.{settles-zero, settles-passed}
 use Rattle.table_machine.proofs.arrays.Arrays.settle.Goals as goal

@@ -1,10 +1,8 @@
 -- By the relation.
-use Rattle.std.proofs.Common.{◌≡◌, ◌+◌, min, List, [], ◌∷◌, ◌++◌, length, pos, negsuc, sym, refl, ap, ◌∙◌, append_assoc, arith, length-append}
-use Rattle.grammar.specs.Meaning.{negative, difference, compared, equivalent, term_words, formula_words}
+use Rattle.std.proofs.Common.{◌∷◌, ◌++◌, pos, sym, ap}
+use Rattle.grammar.specs.Meaning.{difference, compared, term_words, formula_words}
 use Rattle.grammar.specs.declared.relation.Relation.TheVariants.{Below, AtMost, Equal, Unequal, Above, AtLeast}
-use Rattle.text.specs.Sheet.{Holds, Behind}
 use Rattle.text.proofs.Sheets.{same-words}
-use Rattle.text.proofs.Steps.{regrouped, ungrouped}
 use Rattle.text.proofs.sheet.Sheet.compare.Goals as goal
 
 pub returns-in-Below : goal.returns-in-Below

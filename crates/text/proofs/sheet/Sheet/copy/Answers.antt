@@ -1,6 +1,6 @@
 -- The words are repeated again and again.
-use Rattle.std.proofs.Common.{◌≡◌, suc, ◌+◌, ◌≤◌, [], ◌++◌, sym, ap, ◌∙◌, append-nil, add-one, arith}
-use Rattle.text.specs.Sheet.{Holds, copies}
+use Rattle.std.proofs.Common.{◌≡◌, suc, ◌+◌, [], ◌++◌, sym, ap, append-nil, add-one, arith}
+use Rattle.text.specs.Sheet.{copies}
 use Rattle.text.proofs.Sheets.{same-words}
 use Rattle.text.proofs.sheet.Sheet.copy.Goals as goal
 

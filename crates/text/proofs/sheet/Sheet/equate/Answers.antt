@@ -1,9 +1,9 @@
 -- Both ways: the words of each formula once more, behind the signs of the second way.
-use Rattle.std.proofs.Common.{◌≡◌, ◌+◌, min, List, [], ◌∷◌, ◌++◌, length, pos, negsuc, sym, refl, ap, ◌∙◌, append_assoc, arith, length-append}
-use Rattle.grammar.specs.Meaning.{negative, difference, compared, equivalent, term_words, formula_words}
+use Rattle.std.proofs.Common.{min, List, [], ◌∷◌, ◌++◌, length, pos, sym, ap, ◌∙◌, append_assoc}
+use Rattle.grammar.specs.Meaning.{equivalent, formula_words}
 use Rattle.text.specs.Sheet.{Holds, Behind}
 use Rattle.text.proofs.Sheets.{same-words}
-use Rattle.text.proofs.Steps.{regrouped, ungrouped}
+use Rattle.text.proofs.Steps.{regrouped}
 use Rattle.text.proofs.sheet.Sheet.equate.Goals as goal
 
 pub returns : goal.returns

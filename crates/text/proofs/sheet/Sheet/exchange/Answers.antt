@@ -1,6 +1,5 @@
 -- What stands behind a place is turned.
-use Rattle.std.proofs.Common.{◌≡◌, suc, ◌+◌, ◌-◌, ◌<◌, [], ◌∷◌, ◌++◌, length, sym, refl, ap, ◌∙◌, append_assoc, arith, length-append}
-use Rattle.text.specs.Sheet.{Holds}
+use Rattle.std.proofs.Common.{◌≡◌, ◌+◌, ◌-◌, ◌<◌, ◌++◌, length, ◌∙◌, arith, length-append}
 use Rattle.text.proofs.Sheets.{too_many, replaced, turned}
 use Rattle.text.proofs.sheet.Sheet.exchange.Goals as goal
 use Rattle.text.proofs.sheet.Sheet.exchange.Goals.{else-from-middle-via-then-from-middle+then-middle-self+else-self-le-CAPACITY, else-from-middle-via-then-from-middle+else-middle-self, else-from-middle-via-else-from-middle}

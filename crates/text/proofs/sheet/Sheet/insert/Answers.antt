@@ -1,5 +1,5 @@
 -- The word is put at the end, and brought forward by turning what stands behind its place.
-use Rattle.std.proofs.Common.{◌≡◌, suc, ◌+◌, ◌<◌, [], ◌∷◌, ◌++◌, length, sym, refl, ap, ◌∙◌, append_assoc, arith, length-append, w64, to_z, of_z}
+use Rattle.std.proofs.Common.{◌≡◌, suc, ◌+◌, ◌<◌, [], ◌∷◌, ◌++◌, length, ap, ◌∙◌, append_assoc, arith, length-append, w64, to_z, of_z}
 use Rattle.std.proofs.lemmas.Int.{to_z-of_z}
 use Rattle.text.specs.Sheet.{Holds}
 use Rattle.text.proofs.Sheets.{too_many, same-words, replaced, last-in-front}

@@ -1,6 +1,6 @@
 -- The signs are inserted one by one.
-use Rattle.std.proofs.Common.{◌≡◌, suc, ◌+◌, ◌≤◌, ◌++◌, sym, ap, add-one, arith}
-use Rattle.text.specs.Sheet.{Holds, products}
+use Rattle.std.proofs.Common.{◌≡◌, suc, ◌+◌, ◌++◌, sym, ap, add-one, arith}
+use Rattle.text.specs.Sheet.{products}
 use Rattle.text.proofs.Sheets.{same-words}
 use Rattle.text.proofs.sheet.Sheet.multiply.Goals as goal
 

@@ -1,5 +1,5 @@
 -- The word is written where there is room.
-use Rattle.std.proofs.Common.{ℤ, refl, w64}
+use Rattle.std.proofs.Common.{w64}
 use Rattle.std.proofs.lemmas.Int.{to_z-of_z}
 use Rattle.text.proofs.Sheets.{put-fits, put-over}
 use Rattle.text.proofs.sheet.Sheet.put.Goals as goal

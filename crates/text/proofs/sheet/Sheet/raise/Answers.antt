@@ -1,7 +1,7 @@
 -- A power's words: the signs of its products, then the term so many times.
-use Rattle.std.proofs.Common.{◌≡◌, suc, ◌-◌, ◌++◌, length, sym, refl, ap, ◌∙◌, arith}
+use Rattle.std.proofs.Common.{◌≡◌, suc, ◌-◌, ◌++◌, sym, ap, ◌∙◌, arith}
 use Rattle.grammar.specs.Meaning.{power, term_words}
-use Rattle.text.specs.Sheet.{Holds, copies, products}
+use Rattle.text.specs.Sheet.{copies, products}
 use Rattle.text.proofs.Powers.{power-words}
 use Rattle.text.proofs.Sheets.{same-words}
 use Rattle.text.proofs.sheet.Sheet.raise.Goals as goal

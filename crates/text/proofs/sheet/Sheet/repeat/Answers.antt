@@ -1,7 +1,6 @@
 -- The words are put at the end one by one.
-use Rattle.std.proofs.Common.{◌≡◌, ◌+◌, ◌-◌, ◌<◌, ◌≤◌, [], ◌∷◌, ◌++◌, length, get_or, take, pos, sym, refl, ap, ◌∙◌, append-nil, arith, length-append, take_all, w64, SFits, rules}
+use Rattle.std.proofs.Common.{◌≡◌, ◌+◌, ◌-◌, ◌≤◌, ◌++◌, length, get_or, take, pos, ap, arith, length-append, take_all, w64, SFits, rules}
 use Rattle.std.proofs.lemmas.Int.{to_z-of_z}
-use Rattle.text.specs.Sheet.{Holds}
 use Rattle.text.proofs.Sheets.{too_many, same-words, repeated}
 use Rattle.text.proofs.sheet.Sheet.repeat.Goals as goal
 

@@ -1,8 +1,6 @@
 -- The second term is negated, then added.
-use Rattle.std.proofs.Common.{◌≡◌, ◌+◌, min, List, [], ◌∷◌, ◌++◌, length, pos, negsuc, sym, refl, ap, ◌∙◌, append_assoc, arith, length-append}
-use Rattle.grammar.specs.Meaning.{negative, difference, compared, equivalent, term_words, formula_words}
-use Rattle.text.specs.Sheet.{Holds, Behind}
-use Rattle.text.proofs.Sheets.{same-words}
+use Rattle.std.proofs.Common.{◌++◌}
+use Rattle.grammar.specs.Meaning.{negative, term_words}
 use Rattle.text.proofs.Steps.{regrouped, ungrouped}
 use Rattle.text.proofs.sheet.Sheet.subtract.Goals as goal
 

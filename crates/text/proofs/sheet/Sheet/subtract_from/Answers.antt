@@ -1,9 +1,7 @@
 -- The first term is negated, then brought behind the second.
-use Rattle.std.proofs.Common.{◌≡◌, ◌+◌, min, List, [], ◌∷◌, ◌++◌, length, pos, negsuc, sym, refl, ap, ◌∙◌, append_assoc, arith, length-append}
-use Rattle.grammar.specs.Meaning.{negative, difference, compared, equivalent, term_words, formula_words}
-use Rattle.text.specs.Sheet.{Holds, Behind}
-use Rattle.text.proofs.Sheets.{same-words}
-use Rattle.text.proofs.Steps.{regrouped, ungrouped}
+use Rattle.std.proofs.Common.{◌≡◌, ◌+◌, ◌++◌, length, arith, length-append}
+use Rattle.grammar.specs.Meaning.{negative, term_words}
+use Rattle.text.specs.Sheet.{Behind}
 use Rattle.text.proofs.sheet.Sheet.subtract_from.Goals as goal
 
 pub returns : goal.returns

@@ -1,12 +1,12 @@
 -- Each level of a formula, by the levels that it calls.
-use Rattle.std.proofs.Common.{◌≡◌, ◌+◌, ◌-◌, min, true, false, not, ◌&&◌, ◌||◌, eqb, [], ◌∷◌, ◌++◌, length, get_or, pos, codes, sym, refl, ap, ◌∙◌, append-nil, arith}
+use Rattle.std.proofs.Common.{◌≡◌, min, true, false, not, ◌&&◌, ◌||◌, eqb, [], ◌∷◌, ◌++◌, length, get_or, pos, codes, sym, refl, ap, ◌∙◌, append-nil}
 use Rattle.std.proofs.lemmas.Bool.{eq-eqb, ne_eqb, and_from, and_left, and_right, or_from, or_left, or_right}
 use Rattle.field.specs.Sentence.{Not, And, Or}
-use Rattle.grammar.specs.Characters.{is_letter, is_word}
-use Rattle.grammar.specs.Formulas.{claimed, on_claim, denied, from_primary, from_piece, from_word, enclosed, atom_of, atom, joined, row_next, goes_on, row_for, in_row, conjunction, disjunction, implied, arrow_behind, chain_next, arrow_goes_on, chain_for, concluded, chained, implication, equivalence}
-use Rattle.grammar.specs.Meaning.{equivalent, term_words, formula_words}
+use Rattle.grammar.specs.Characters.{is_letter}
+use Rattle.grammar.specs.Formulas.{on_claim, denied, from_piece, from_word, enclosed, atom_of, atom, joined, row_next, goes_on, row_for, in_row, conjunction, disjunction, implied, arrow_behind, chain_next, arrow_goes_on, chain_for, concluded, chained, implication, equivalence}
+use Rattle.grammar.specs.Meaning.{equivalent, formula_words}
 use Rattle.grammar.specs.Nesting.{nest}
-use Rattle.grammar.specs.Reader.{run, Read, ◌>>=◌}
+use Rattle.grammar.specs.Reader.{run, Read}
 use Rattle.grammar.specs.Terms.{OfTerm, OfClaim}
 use Rattle.grammar.specs.Tokens.{sign, keyword}
 use Rattle.grammar.proofs.Runs.{goes_on as run_on, stops, while-goes, while-stops, while-ended, while-over}

@@ -1,12 +1,12 @@
 -- Each level of a term, by the levels that it calls.
-use Rattle.std.proofs.Common.{◌≡◌, ◌+◌, ◌-◌, true, false, not, ◌&&◌, ◌||◌, eqb, ◌⊎◌, [], ◌∷◌, ◌++◌, get_or, pos, sym, refl, ap, ◌∙◌, inl, inr, arith, w64, SFits, rules}
+use Rattle.std.proofs.Common.{◌≡◌, ◌+◌, ◌-◌, true, false, not, ◌&&◌, ◌||◌, eqb, [], ◌∷◌, ◌++◌, get_or, pos, sym, refl, ap, ◌∙◌, w64, SFits, rules}
 use Rattle.std.proofs.lemmas.Int.{to_z-of_z}
 use Rattle.std.proofs.lemmas.Bool.{eq-eqb, ne_eqb, and_from, and_left, and_right, or_from, or_left, or_right}
 use Rattle.field.specs.Sentence.{Num, Sum, Product}
 use Rattle.grammar.specs.Characters.{is_letter, is_digit}
 use Rattle.grammar.specs.Meaning.{negative, difference, term_words}
 use Rattle.grammar.specs.Nesting.{nest}
-use Rattle.grammar.specs.Reader.{run, Look, ◌>>=◌}
+use Rattle.grammar.specs.Reader.{run, Look}
 use Rattle.grammar.specs.Terms.{grouped, primary_of, factor, times_next, times_for, product, taken, taken_of, added, summand_of, plus_next, begins_summand, plus_for, plus, negated, leading_of, sum}
 use Rattle.grammar.specs.Tokens.{sign}
 use Rattle.grammar.proofs.Runs.{goes_on, stops, while-goes, while-stops, while-ended, while-over}

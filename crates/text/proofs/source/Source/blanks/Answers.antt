@@ -1,7 +1,7 @@
 -- Blanks are passed one by one.
 use Rattle.std.proofs.Common.{◌≡◌, ◌+◌, ◌-◌, true, false, get_or, sym, ap, ◌∙◌}
 use Rattle.grammar.specs.Characters.{is_blank}
-use Rattle.grammar.specs.Reader.{run, next}
+use Rattle.grammar.specs.Reader.{run}
 use Rattle.grammar.specs.Tokens.{blanks_for}
 use Rattle.grammar.proofs.Tokens.{blanks-again, blanks-ended, blanks-over}
 use Rattle.text.proofs.source.Source.blanks.Goals as goal

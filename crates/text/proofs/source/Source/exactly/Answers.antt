@@ -1,7 +1,7 @@
 -- The characters are compared one by one.
-use Rattle.std.proofs.Common.{◌≡◌, ◌+◌, get_or, drop, sym, ap, ◌∙◌}
+use Rattle.std.proofs.Common.{◌+◌, drop, sym, ap, ◌∙◌}
 use Rattle.std.proofs.lemmas.List.{at_drop_all}
-use Rattle.grammar.specs.Reader.{Reader, run, next, Read}
+use Rattle.grammar.specs.Reader.{run}
 use Rattle.grammar.specs.Tokens.{exactly}
 use Rattle.grammar.proofs.Tokens.{exactly-again, exactly-not}
 use Rattle.text.proofs.source.Source.exactly.Goals as goal

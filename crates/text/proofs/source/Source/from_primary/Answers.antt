@@ -1,14 +1,8 @@
 -- The power, the product, then the sum.
-use Rattle.std.proofs.Common.{◌≡◌, true, false, cond, eqb, [], ◌∷◌, ◌++◌, get_or, sym, refl, ap, ◌∙◌, arith}
-use Rattle.std.proofs.lemmas.Bool.{eq-eqb, ne_eqb}
-use Rattle.grammar.specs.Formulas.{begins_relation, relation_of, or_equal, comparison_of, from_product, from_primary}
-use Rattle.grammar.specs.Meaning.{compared, term_words, formula_words}
-use Rattle.grammar.specs.Nesting.{nest}
-use Rattle.grammar.specs.Reader.{run, Look}
-use Rattle.grammar.specs.Terms.{OfTerm, OfClaim}
+use Rattle.std.proofs.Common.{◌∙◌}
+use Rattle.grammar.specs.Formulas.{from_primary}
 use Rattle.grammar.proofs.Runs.{goes_on, stops}
-use Rattle.text.proofs.Exits.{stops_at, handed-on}
-use Rattle.text.proofs.Steps.{read_by, refused-by, chose, passed_over, regrouped}
+use Rattle.text.proofs.Steps.{read_by, refused-by}
 use Rattle.text.proofs.source.Source.from_primary.Goals as goal
 
 pub returns-in_err-raised : goal.returns-in_err-raised

@@ -1,14 +1,8 @@
 -- The sum, then its comparison.
-use Rattle.std.proofs.Common.{◌≡◌, true, false, cond, eqb, [], ◌∷◌, ◌++◌, get_or, sym, refl, ap, ◌∙◌, arith}
-use Rattle.std.proofs.lemmas.Bool.{eq-eqb, ne_eqb}
-use Rattle.grammar.specs.Formulas.{begins_relation, relation_of, or_equal, comparison_of, from_product, from_primary}
-use Rattle.grammar.specs.Meaning.{compared, term_words, formula_words}
-use Rattle.grammar.specs.Nesting.{nest}
-use Rattle.grammar.specs.Reader.{run, Look}
-use Rattle.grammar.specs.Terms.{OfTerm, OfClaim}
+use Rattle.grammar.specs.Formulas.{from_product}
+use Rattle.grammar.specs.Reader.{run}
 use Rattle.grammar.proofs.Runs.{goes_on, stops}
-use Rattle.text.proofs.Exits.{stops_at, handed-on}
-use Rattle.text.proofs.Steps.{read_by, refused-by, chose, passed_over, regrouped}
+use Rattle.text.proofs.Steps.{read_by, refused-by}
 use Rattle.text.proofs.source.Source.from_product.Goals as goal
 
 pub returns-in_err-plus : goal.returns-in_err-plus

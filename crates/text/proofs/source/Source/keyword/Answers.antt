@@ -1,6 +1,6 @@
 -- The letters, the end of the word, then the blanks.
 use Rattle.std.proofs.Common.{◌∙◌}
-use Rattle.grammar.specs.Reader.{run, ◌>>◌}
+use Rattle.grammar.specs.Reader.{◌>>◌}
 use Rattle.grammar.specs.Tokens.{exactly, keyword, word_end, blanks}
 use Rattle.grammar.proofs.Runs.{goes_on}
 use Rattle.text.proofs.Exits.{stops_at}

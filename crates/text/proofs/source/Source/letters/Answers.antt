@@ -1,5 +1,5 @@
 -- A letter, the letters from here on, and the end of the word.
-use Rattle.std.proofs.Common.{◌≡◌, true, false, cond, get_or, sym, ap, ◌∙◌}
+use Rattle.std.proofs.Common.{cond, sym, ap, ◌∙◌}
 use Rattle.grammar.specs.Characters.{is_letter}
 use Rattle.grammar.specs.Reader.{run, Give, Refuse, ◌>>=◌, ◌>>◌}
 use Rattle.grammar.specs.Tokens.{letters_on, letters, word_end}

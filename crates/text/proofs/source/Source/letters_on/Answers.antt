@@ -1,7 +1,7 @@
 -- Letters are passed one by one.
 use Rattle.std.proofs.Common.{◌≡◌, suc, ◌+◌, ◌-◌, true, false, get_or, set, sym, refl, ap, ◌∙◌, ap₂, arith}
 use Rattle.grammar.specs.Characters.{is_letter}
-use Rattle.grammar.specs.Reader.{run, next}
+use Rattle.grammar.specs.Reader.{run}
 use Rattle.grammar.specs.Tokens.{letters_for, with_letter}
 use Rattle.grammar.proofs.Tokens.{letters-again, letters-ended, letters-over}
 use Rattle.text.proofs.source.Source.letters_on.Goals as goal

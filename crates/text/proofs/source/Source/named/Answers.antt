@@ -1,12 +1,12 @@
 -- A word of the language doesn't fit, a name that isn't quantified is wrong, and another stands for its variable.
-use Rattle.std.proofs.Common.{◌≡◌, [], ◌∷◌, ◌++◌, pos, Some, None, sym, refl, ap, ◌∙◌, arith, w64, SFits, rules}
+use Rattle.std.proofs.Common.{[], ◌∷◌, ◌++◌, pos, Some, None, sym, ap, ◌∙◌, w64, SFits, rules}
 use Rattle.std.proofs.lemmas.Int.{to_z-of_z}
 use Rattle.field.specs.Sentence.{Var}
-use Rattle.grammar.specs.declared.fault.Fault.TheVariants.{Unfit, Wrong}
+use Rattle.grammar.specs.declared.fault.Fault.TheVariants.{Wrong}
 use Rattle.grammar.specs.Meaning.{term_words}
-use Rattle.grammar.specs.Reader.{run, Give, Refuse, ◌>>=◌, ◌>>◌}
+use Rattle.grammar.specs.Reader.{run, Give, Refuse, ◌>>◌}
 use Rattle.grammar.specs.Terms.{named}
-use Rattle.grammar.specs.Tokens.{variable, position, blanks}
+use Rattle.grammar.specs.Tokens.{variable, blanks}
 use Rattle.grammar.proofs.Runs.{goes_on, stops}
 use Rattle.text.proofs.Sheets.{same-words}
 use Rattle.text.proofs.Steps.{chose, passed_over, regrouped}

@@ -1,5 +1,5 @@
 -- A word that is no name yet.
-use Rattle.std.proofs.Common.{◌≡◌, Some, None, sym, ap, ◌∙◌}
+use Rattle.std.proofs.Common.{Some, None, sym, ap, ◌∙◌}
 use Rattle.grammar.specs.declared.fault.Fault.TheVariants.{Wrong}
 use Rattle.grammar.specs.Reader.{run, Give, Refuse, ◌>>◌}
 use Rattle.grammar.specs.Tokens.{new_name, blanks}

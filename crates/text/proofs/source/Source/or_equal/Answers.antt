@@ -1,14 +1,11 @@
 -- By the sign that follows.
-use Rattle.std.proofs.Common.{◌≡◌, true, false, cond, eqb, [], ◌∷◌, ◌++◌, get_or, sym, refl, ap, ◌∙◌, arith}
+use Rattle.std.proofs.Common.{sym, ◌∙◌}
 use Rattle.std.proofs.lemmas.Bool.{eq-eqb, ne_eqb}
-use Rattle.grammar.specs.Formulas.{begins_relation, relation_of, or_equal, comparison_of, from_product, from_primary}
-use Rattle.grammar.specs.Meaning.{compared, term_words, formula_words}
-use Rattle.grammar.specs.Nesting.{nest}
-use Rattle.grammar.specs.Reader.{run, Look}
-use Rattle.grammar.specs.Terms.{OfTerm, OfClaim}
+use Rattle.grammar.specs.Formulas.{or_equal}
+use Rattle.grammar.specs.Reader.{run}
 use Rattle.grammar.proofs.Runs.{goes_on, stops}
-use Rattle.text.proofs.Exits.{stops_at, handed-on}
-use Rattle.text.proofs.Steps.{read_by, refused-by, chose, passed_over, regrouped}
+use Rattle.text.proofs.Exits.{handed-on}
+use Rattle.text.proofs.Steps.{chose, passed_over}
 use Rattle.text.proofs.source.Source.or_equal.Goals as goal
 
 pub returns-in_err-sign : goal.returns-in_err-sign

@@ -1,5 +1,5 @@
 -- By its first letter.
-use Rattle.std.proofs.Common.{◌≡◌, sym, ◌∙◌}
+use Rattle.std.proofs.Common.{sym, ◌∙◌}
 use Rattle.std.proofs.lemmas.Bool.{eq-eqb, ne_eqb}
 use Rattle.grammar.specs.Reader.{run}
 use Rattle.grammar.specs.Text.{quantifier_of}

@@ -1,7 +1,7 @@
 -- `^` with a digit raises the term in front of it.
-use Rattle.std.proofs.Common.{◌≡◌, ◌-◌, true, false, ◌&&◌, eqb, leb, ◌++◌, get_or, sym, refl, ap, ◌∙◌, ap₂, inl, inr, arith}
+use Rattle.std.proofs.Common.{◌≡◌, ◌-◌, true, false, ◌&&◌, leb, sym, ap, ◌∙◌, ap₂, inl, inr}
 use Rattle.std.proofs.lemmas.Bool.{eq-eqb, ne_eqb, le-leb, lt-leb, and_from, and_left, and_right}
-use Rattle.grammar.specs.Meaning.{power, term_words}
+use Rattle.grammar.specs.Meaning.{power}
 use Rattle.grammar.specs.Reader.{run, Give, ◌>>◌}
 use Rattle.grammar.specs.Terms.{raised}
 use Rattle.grammar.specs.Tokens.{blanks}

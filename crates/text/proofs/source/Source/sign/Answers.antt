@@ -1,6 +1,5 @@
 -- The characters, then the blanks.
 use Rattle.std.proofs.Common.{◌∙◌}
-use Rattle.grammar.specs.Reader.{run}
 use Rattle.grammar.specs.Tokens.{exactly, sign, blanks}
 use Rattle.grammar.proofs.Runs.{goes_on}
 use Rattle.text.proofs.Exits.{stops_at}

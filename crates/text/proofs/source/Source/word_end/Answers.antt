@@ -1,5 +1,5 @@
 -- By the character in front.
-use Rattle.std.proofs.Common.{◌≡◌, true, false, cond, get_or, sym, ap, ◌∙◌}
+use Rattle.std.proofs.Common.{cond, sym, ap, ◌∙◌}
 use Rattle.grammar.specs.Characters.{is_letter}
 use Rattle.grammar.specs.Reader.{run, Give, Refuse}
 use Rattle.grammar.specs.Tokens.{word_end}
