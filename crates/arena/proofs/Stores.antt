@@ -11,13 +11,13 @@ stored top cells value h f =
     rw (to_z-of_z w64 value f) (record { stands = take_more_set cells top value h; higher = refl; long = length-set cells top value })
 
 -- nothing pushed
-pub none-grown : (top : ℕ) (cells : List ℤ) → Grown [] top cells top cells
-none-grown top cells = record { stands = sym (append-nil (take top cells)); higher = omega arith; long = refl }
+pub none_grown : (top : ℕ) (cells : List ℤ) → Grown [] top cells top cells
+none_grown top cells = record { stands = sym (append-nil (take top cells)); higher = omega arith; long = refl }
 
 -- what is pushed in turn
-pub grown-more : (u v : List ℤ) (top : ℕ) (cells : List ℤ) (top1 : ℕ) (cells1 : List ℤ) (top2 : ℕ) (cells2 : List ℤ) →
+pub grown_more : (u v : List ℤ) (top : ℕ) (cells : List ℤ) (top1 : ℕ) (cells1 : List ℤ) (top2 : ℕ) (cells2 : List ℤ) →
     Grown u top cells top1 cells1 → Grown v top1 cells1 top2 cells2 → Grown (u ++ v) top cells top2 cells2
-grown-more u v top cells top1 cells1 top2 cells2 g h =
+grown_more u v top cells top1 cells1 top2 cells2 g h =
     record {
       stands = h.stands ∙ ap (λ w. w ++ v) g.stands ∙ append_assoc (take top cells) u v;
       higher = omega (arith, g.higher, h.higher, length-append u v);
@@ -29,4 +29,4 @@ pub grown-next : (values : List ℤ) (i : ℕ) (x : ℤ) (top : ℕ) (cells : Li
     Grown (take i values) top cells top1 cells1 → Grown (x ∷ []) top1 cells1 top2 cells2 → Grown (take (i + 1) values) top cells top2 cells2
 grown-next values i x top cells top1 cells1 top2 cells2 l e g h =
     subst (λ w. Grown w top cells top2 cells2) (sym (take_more values i (pos 0) l ∙ ap (λ y. take i values ++ y ∷ []) (sym e)))
-    (grown-more (take i values) (x ∷ []) top cells top1 cells1 top2 cells2 g h)
+    (grown_more (take i values) (x ∷ []) top cells top1 cells1 top2 cells2 g h)

@@ -9,8 +9,8 @@ pub record Grown (new : List ℤ) (top : ℕ) (cells : List ℤ) (top' : ℕ) (c
 
 -- nothing has changed
 pub record Kept (top : ℕ) (cells : List ℤ) (top' : ℕ) (cells' : List ℤ) : Type 0 where
-  pub same-top : top' ≡ top
-  pub same-cells : cells' ≡ cells
+  pub same_top : top' ≡ top
+  pub same_cells : cells' ≡ cells
 
 -- one number pushed, or refused since all are in use
 abbrev pub pushed : {E : Type 0} → Result (Unit {0}) E → ℤ → ℕ → List ℤ → ℕ → List ℤ → Type 0

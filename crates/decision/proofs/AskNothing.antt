@@ -5,12 +5,12 @@ use Rattle.sign_table.specs.Tree.{Tree, Yes, No, GivenUp, Ask}
 use Rattle.sign_table.specs.Meaning.{Says, YesOrNo, DepthTree}
 use Rattle.decision.specs.RowAnswer.{or_tree, not_tree}
 
-pub given-up-refused : {A : Type 0} {what : Tree} → YesOrNo what → what ≡ GivenUp → A
-given-up-refused (inl y) e = let z : ◌≡◌ {A = ℕ} 0 1 = cc in absurd (omega arith)
-given-up-refused (inr n) e = let z : ◌≡◌ {A = ℕ} 0 1 = cc in absurd (omega arith)
+pub given_up_refused : {A : Type 0} {what : Tree} → YesOrNo what → what ≡ GivenUp → A
+given_up_refused (inl y) e = let z : ◌≡◌ {A = ℕ} 0 1 = cc in absurd (omega arith)
+given_up_refused (inr n) e = let z : ◌≡◌ {A = ℕ} 0 1 = cc in absurd (omega arith)
 
-pub yes-not-no : {A : Type 0} → Yes ≡ No → A
-yes-not-no e = let z : ◌≡◌ {A = ℕ} 0 1 = cc in absurd (omega arith)
+pub yes_not_no : {A : Type 0} → Yes ≡ No → A
+yes_not_no e = let z : ◌≡◌ {A = ℕ} 0 1 = cc in absurd (omega arith)
 
 abbrev pub AsksNothing : Tree → Type 0
 AsksNothing Yes = Unit {0}
@@ -18,20 +18,20 @@ AsksNothing No = Unit {0}
 AsksNothing GivenUp = Unit {0}
 AsksNothing (Ask p a b c) = ⊥
 
-pub nothing-or : (a b : Tree) → AsksNothing b → AsksNothing (or_tree a b)
-nothing-or Yes b h = tt
-nothing-or No b h = h
-nothing-or GivenUp Yes h = tt
-nothing-or GivenUp No h = tt
-nothing-or GivenUp GivenUp h = tt
-nothing-or GivenUp (Ask p a b c) h = tt
-nothing-or (Ask p a b c) t h = tt
+pub nothing_or : (a b : Tree) → AsksNothing b → AsksNothing (or_tree a b)
+nothing_or Yes b h = tt
+nothing_or No b h = h
+nothing_or GivenUp Yes h = tt
+nothing_or GivenUp No h = tt
+nothing_or GivenUp GivenUp h = tt
+nothing_or GivenUp (Ask p a b c) h = tt
+nothing_or (Ask p a b c) t h = tt
 
-pub nothing-not : (a : Tree) → AsksNothing (not_tree a)
-nothing-not Yes = tt
-nothing-not No = tt
-nothing-not GivenUp = tt
-nothing-not (Ask p a b c) = tt
+pub nothing_not : (a : Tree) → AsksNothing (not_tree a)
+nothing_not Yes = tt
+nothing_not No = tt
+nothing_not GivenUp = tt
+nothing_not (Ask p a b c) = tt
 
 pub Depth-nothing : (n : ℕ) (t : Tree) → AsksNothing t → DepthTree n t
 unfolding DepthTree
@@ -40,12 +40,12 @@ Depth-nothing n No h = tt
 Depth-nothing n GivenUp h = tt
 Depth-nothing n (Ask p a b c) h = absurd h
 
-pub says-itself : {R : Type 0} (f : RealClosedField R) (e : List R) (what t : Tree) → AsksNothing t → Says f what t e → t ≡ what
+pub says_itself : {R : Type 0} (f : RealClosedField R) (e : List R) (what t : Tree) → AsksNothing t → Says f what t e → t ≡ what
 unfolding Says
-says-itself f e what Yes h s = sym s
-says-itself f e what No h s = sym s
-says-itself f e what GivenUp h s = sym s
-says-itself f e what (Ask p a b c) h s = absurd h
+says_itself f e what Yes h s = sym s
+says_itself f e what No h s = sym s
+says_itself f e what GivenUp h s = sym s
+says_itself f e what (Ask p a b c) h s = absurd h
 
 pub not_yes : (a : Tree) → not_tree a ≡ Yes → a ≡ No
 not_yes Yes e = cc
@@ -53,11 +53,11 @@ not_yes No e = cc
 not_yes GivenUp e = cc
 not_yes (Ask p a b c) e = cc
 
-pub not-no : (a : Tree) → not_tree a ≡ No → a ≡ Yes
-not-no Yes e = cc
-not-no No e = cc
-not-no GivenUp e = cc
-not-no (Ask p a b c) e = cc
+pub not_no : (a : Tree) → not_tree a ≡ No → a ≡ Yes
+not_no Yes e = cc
+not_no No e = cc
+not_no GivenUp e = cc
+not_no (Ask p a b c) e = cc
 
 pub or_yes : (a b : Tree) → or_tree a b ≡ Yes → (a ≡ Yes) ⊎ (b ≡ Yes)
 or_yes Yes b e = inl e

@@ -14,7 +14,7 @@ use Rattle.sign_table.specs.Right.{Member, signs_at}
 use Rattle.decision.specs.Asked.{is_among}
 use Rattle.decision.specs.RowAnswer.{sign_at, on_row, or_tree, not_tree, some, every}
 use Rattle.decision.specs.Eliminate.{over_rows}
-use Rattle.decision.proofs.AskNothing.{yes-not-no, AsksNothing, nothing-or, nothing-not, not_yes, not-no, or_yes, or_no}
+use Rattle.decision.proofs.AskNothing.{yes_not_no, AsksNothing, nothing_or, nothing_not, not_yes, not_no, or_yes, or_no}
 use Rattle.decision.proofs.Asked.{AllAmong}
 
 module _ {R : Type 0} (f : RealClosedField R) (e : List R) where
@@ -33,17 +33,17 @@ module _ {R : Type 0} (f : RealClosedField R) (e : List R) where
   follow what Zero a b c A B C ha hb hc h = hb h
   follow what Pos a b c A B C ha hb hc h = hc h
 
-  pub row-says : (ps : List Poly) → DepthAll (length e) ps → (what t : Tree) → DepthTree (length e) t → AllAmong (length e) t ps →
+  pub row_says : (ps : List Poly) → DepthAll (length e) ps → (what t : Tree) → DepthTree (length e) t → AllAmong (length e) t ps →
       on_row (length e) ps (signs_at f ps e) t ≡ what → Says f what t e
   unfolding Says on_row DepthTree AllAmong
-  row-says ps ds what Yes d k h = sym h
-  row-says ps ds what No d k h = sym h
-  row-says ps ds what GivenUp d k h = sym h
-  row-says ps ds what (Ask p a b c) d k h =
+  row_says ps ds what Yes d k h = sym h
+  row_says ps ds what No d k h = sym h
+  row_says ps ds what GivenUp d k h = sym h
+  row_says ps ds what (Ask p a b c) d k h =
       let row = signs_at f ps e in
       let n = length e in
       follow what (f.sign (value f p e)) (on_row n ps row a) (on_row n ps row b) (on_row n ps row c) (Says f what a e) (Says f what b e) (Says f what c e)
-      (row-says ps ds what a d.1 k.1) (row-says ps ds what b d.2 k.2) (row-says ps ds what c d.3 k.3)
+      (row_says ps ds what a d.1 k.1) (row_says ps ds what b d.2 k.2) (row_says ps ds what c d.3 k.3)
       (ap (λ s. by_sign s (on_row n ps row a) (on_row n ps row b) (on_row n ps row c)) (sym (sign_at_lem p ps d.0 ds k.0)) ∙ h)
 
 module _ (n : ℕ) (ps : List Poly) (t : Tree) where
@@ -63,33 +63,33 @@ module _ (n : ℕ) (ps : List Poly) (t : Tree) where
   pub nothing-over : (all : Bool) (rows : List (List Sign)) → AsksNothing (over_rows all n ps t rows)
   unfolding some every
   nothing-over true [] = tt
-  nothing-over true (row ∷ rows) = nothing-not _
+  nothing-over true (row ∷ rows) = nothing_not _
   nothing-over false [] = tt
-  nothing-over false (row ∷ rows) = nothing-or (on_row n ps row t) (some n ps t rows) (nothing-over false rows)
+  nothing-over false (row ∷ rows) = nothing_or (on_row n ps row t) (some n ps t rows) (nothing-over false rows)
 
-  pub some-yes : (rows : List (List Sign)) → some n ps t rows ≡ Yes → InSome Yes rows
+  pub some_yes : (rows : List (List Sign)) → some n ps t rows ≡ Yes → InSome Yes rows
   unfolding some
-  some-yes [] h = yes-not-no (sym h)
-  some-yes (row ∷ rows) h = ⊎_elim (λ q. (row, inl refl, q)) (λ q. in-later Yes row rows (some-yes rows q)) (or_yes (on_row n ps row t) (some n ps t rows) h)
+  some_yes [] h = yes_not_no (sym h)
+  some_yes (row ∷ rows) h = ⊎_elim (λ q. (row, inl refl, q)) (λ q. in-later Yes row rows (some_yes rows q)) (or_yes (on_row n ps row t) (some n ps t rows) h)
 
-  pub some-no : (rows : List (List Sign)) → some n ps t rows ≡ No → InEvery No rows
+  pub some_no : (rows : List (List Sign)) → some n ps t rows ≡ No → InEvery No rows
   unfolding some
-  some-no [] h = λ row m. absurd m
-  some-no (row ∷ rows) h = let (q, r) = or_no (on_row n ps row t) (some n ps t rows) h in in_both No row rows q (some-no rows r)
+  some_no [] h = λ row m. absurd m
+  some_no (row ∷ rows) h = let (q, r) = or_no (on_row n ps row t) (some n ps t rows) h in in_both No row rows q (some_no rows r)
 
-  pub every-yes : (rows : List (List Sign)) → every n ps t rows ≡ Yes → InEvery Yes rows
+  pub every_yes : (rows : List (List Sign)) → every n ps t rows ≡ Yes → InEvery Yes rows
   unfolding every
-  every-yes [] h = λ row m. absurd m
-  every-yes (row ∷ rows) h =
+  every_yes [] h = λ row m. absurd m
+  every_yes (row ∷ rows) h =
       let here = on_row n ps row t in
       let later = every n ps t rows in
       let (q, r) = or_no (not_tree here) (not_tree later) (not_yes (or_tree (not_tree here) (not_tree later)) h) in
-      in_both Yes row rows (not-no here q) (every-yes rows (not-no later r))
+      in_both Yes row rows (not_no here q) (every_yes rows (not_no later r))
 
-  pub every-no : (rows : List (List Sign)) → every n ps t rows ≡ No → InSome No rows
+  pub every_no : (rows : List (List Sign)) → every n ps t rows ≡ No → InSome No rows
   unfolding every
-  every-no [] h = yes-not-no h
-  every-no (row ∷ rows) h =
+  every_no [] h = yes_not_no h
+  every_no (row ∷ rows) h =
       let here = on_row n ps row t in
       let later = every n ps t rows in
-      ⊎_elim (λ q. (row, inl refl, not_yes here q)) (λ q. in-later No row rows (every-no rows (not_yes later q))) (or_yes (not_tree here) (not_tree later) (not-no (or_tree (not_tree here) (not_tree later)) h))
+      ⊎_elim (λ q. (row, inl refl, not_yes here q)) (λ q. in-later No row rows (every_no rows (not_yes later q))) (or_yes (not_tree here) (not_tree later) (not_no (or_tree (not_tree here) (not_tree later)) h))

@@ -15,11 +15,11 @@ number-one No h = absurd (omega arith)
 number-one GivenUp h = absurd (omega arith)
 number-one (Ask p a b c) h = absurd (omega arith)
 
-number-zero : (t : Tree) → answer_number t ≡ 0 → t ≡ No
-number-zero Yes h = absurd (omega arith)
-number-zero No h = refl
-number-zero GivenUp h = absurd (omega arith)
-number-zero (Ask p a b c) h = absurd (omega arith)
+number_zero : (t : Tree) → answer_number t ≡ 0 → t ≡ No
+number_zero Yes h = absurd (omega arith)
+number_zero No h = refl
+number_zero GivenUp h = absurd (omega arith)
+number_zero (Ask p a b c) h = absurd (omega arith)
 
 -- a verdict below 3 is the answer
 verdict-answers : (words : List ℤ) (lent : ℕ) → verdict words lent < 3 → answer words ≡ verdict words lent
@@ -33,18 +33,18 @@ verdict-answers words lent = tested (is_sentence words) (eqb lent work_length)
 module _ {R : Type 0} (f : RealClosedField R) where
   one_holds : (o : Option Sentence) → answer_of o ≡ 1 → (s : Sentence) × (o ≡ Some s) × Holds f s
   one_holds None h = absurd (omega arith)
-  one_holds (Some s) h = (s, refl, (decides f).yes-holds s (number-one (decide s) h))
+  one_holds (Some s) h = (s, refl, (decides f).yes_holds s (number-one (decide s) h))
 
-  zero-fails : (o : Option Sentence) → answer_of o ≡ 0 → (s : Sentence) × (o ≡ Some s) × (Holds f s → ⊥)
-  zero-fails None h = absurd (omega arith)
-  zero-fails (Some s) h = (s, refl, (decides f).no-fails s (number-zero (decide s) h))
+  zero_fails : (o : Option Sentence) → answer_of o ≡ 0 → (s : Sentence) × (o ≡ Some s) × (Holds f s → ⊥)
+  zero_fails None h = absurd (omega arith)
+  zero_fails (Some s) h = (s, refl, (decides f).no_fails s (number_zero (decide s) h))
 
-  pub answers-right : AnswersRight f
+  pub answers_right : AnswersRight f
   unfolding answer
-  answers-right =
+  answers_right =
       record {
         one_holds = λ words. one_holds (sentence_of words);
-        zero-fails = λ words. zero-fails (sentence_of words);
-        verdict-one-holds = λ words lent h. one_holds (sentence_of words) (verdict-answers words lent (omega arith) ∙ h);
-        verdict-zero-fails = λ words lent h. zero-fails (sentence_of words) (verdict-answers words lent (omega arith) ∙ h);
+        zero_fails = λ words. zero_fails (sentence_of words);
+        verdict_one_holds = λ words lent h. one_holds (sentence_of words) (verdict-answers words lent (omega arith) ∙ h);
+        verdict_zero_fails = λ words lent h. zero_fails (sentence_of words) (verdict-answers words lent (omega arith) ∙ h);
       }

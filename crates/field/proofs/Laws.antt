@@ -5,45 +5,45 @@ use Rattle.field.proofs.Ring as Ring
 use Rattle.field.proofs.Order as Order
 use Rattle.field.proofs.Whole as Whole
 
-pub ring-laws : {R : Type 0} (f : RealClosedField R) → RingLaws f
-ring-laws f = record {
-  zero-add = Ring.zero-add f;
-  one-mul = Ring.one-mul f;
-  add-mul = Ring.add-mul f;
-  mul-zero = Ring.mul-zero f;
-  neg-neg = Ring.neg-neg f;
-  neg-add = Ring.neg-add f;
-  mul-neg = Ring.mul-neg f;
-  neg-mul = Ring.neg-mul f;
-  add-cancel = Ring.add-cancel f;
-  no-zero-divisors = Order.no-zero-divisors f;
+pub ring_laws : {R : Type 0} (f : RealClosedField R) → RingLaws f
+ring_laws f = record {
+  zero_add = Ring.zero_add f;
+  one_mul = Ring.one_mul f;
+  add_mul = Ring.add_mul f;
+  mul_zero = Ring.mul_zero f;
+  neg_neg = Ring.neg_neg f;
+  neg_add = Ring.neg_add f;
+  mul_neg = Ring.mul_neg f;
+  neg_mul = Ring.neg_mul f;
+  add_cancel = Ring.add_cancel f;
+  no_zero_divisors = Order.no_zero_divisors f;
 }
 
-pub order-laws : {R : Type 0} (f : RealClosedField R) → OrderLaws f
-order-laws f = record {
-  sign-of-zero = Order.sign-of-zero f;
-  sign-add-same = Order.sign-add-same f;
-  sign-add-weak = Order.sign-add-weak f;
-  sign-inv = Order.sign-inv f;
-  sign-square = Order.sign-square f;
-  equal-iff = λ a b. (Order.to-zero f a b, Order.equal-to f a b);
-  turn = Order.to-turn f;
-  trans = Order.to-trans f;
+pub order_laws : {R : Type 0} (f : RealClosedField R) → OrderLaws f
+order_laws f = record {
+  sign_of_zero = Order.sign_of_zero f;
+  sign_add_same = Order.sign_add_same f;
+  sign_add_weak = Order.sign_add_weak f;
+  sign_inv = Order.sign_inv f;
+  sign_square = Order.sign_square f;
+  equal_iff = λ a b. (Order.to_zero f a b, Order.equal_to f a b);
+  turn = Order.to_turn f;
+  trans = Order.to_trans f;
   trichotomy = Order.trichotomy f;
-  add-both = Order.to-add f;
-  mul-both = Order.to-mul f;
+  add_both = Order.to_add f;
+  mul_both = Order.to_mul f;
   between = Order.between f;
   beyond = Order.beyond f;
-  beyond-both = Order.beyond-both f;
+  beyond_both = Order.beyond_both f;
 }
 
-pub whole-laws : {R : Type 0} (f : RealClosedField R) → WholeLaws f
-whole-laws f = record {
-  integer-add = Whole.integer-add f;
-  integer-mul = Whole.integer-mul f;
-  integer-neg = Whole.integer-neg f;
-  sign-integer = Whole.sign-integer f;
+pub whole_laws : {R : Type 0} (f : RealClosedField R) → WholeLaws f
+whole_laws f = record {
+  integer_add = Whole.integer_add f;
+  integer_mul = Whole.integer_mul f;
+  integer_neg = Whole.integer_neg f;
+  sign_integer = Whole.sign_integer f;
 }
 
 pub laws : {R : Type 0} (f : RealClosedField R) → FieldLaws f
-laws f = (ring-laws f, order-laws f, whole-laws f)
+laws f = (ring_laws f, order_laws f, whole_laws f)

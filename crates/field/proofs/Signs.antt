@@ -37,30 +37,30 @@ decide-sign Pos Neg = no (λ p. same p)
 decide-sign Pos Zero = no (λ p. same p)
 decide-sign Pos Pos = yes refl
 
-pub not-zero : (s : Sign) → (s ≡ Zero → ⊥) → NotZero s
-not-zero Neg n = tt
-not-zero Zero n = n refl
-not-zero Pos n = tt
+pub not_zero : (s : Sign) → (s ≡ Zero → ⊥) → NotZero s
+not_zero Neg n = tt
+not_zero Zero n = n refl
+not_zero Pos n = tt
 
-pub not-zero-apart : (s : Sign) → NotZero s → s ≡ Zero → ⊥
-not-zero-apart Neg n p = same p
-not-zero-apart Zero n p = n
-not-zero-apart Pos n p = same p
+pub not_zero_apart : (s : Sign) → NotZero s → s ≡ Zero → ⊥
+not_zero_apart Neg n p = same p
+not_zero_apart Zero n p = n
+not_zero_apart Pos n p = same p
 
 pub flip-flip : (s : Sign) → flip (flip s) ≡ s
 flip-flip Neg = refl
 flip-flip Zero = refl
 flip-flip Pos = refl
 
-pub flip-not-zero : (s : Sign) → NotZero s → NotZero (flip s)
-flip-not-zero Neg n = tt
-flip-not-zero Zero n = n
-flip-not-zero Pos n = tt
+pub flip_not_zero : (s : Sign) → NotZero s → NotZero (flip s)
+flip_not_zero Neg n = tt
+flip_not_zero Zero n = n
+flip_not_zero Pos n = tt
 
-pub flip-apart : (s : Sign) → NotZero s → flip s ≡ s → ⊥
-flip-apart Neg n p = same p
-flip-apart Zero n p = n
-flip-apart Pos n p = same p
+pub flip_apart : (s : Sign) → NotZero s → flip s ≡ s → ⊥
+flip_apart Neg n p = same p
+flip_apart Zero n p = n
+flip_apart Pos n p = same p
 
 pub times_zero : (s : Sign) → times s Zero ≡ Zero
 times_zero Neg = refl
@@ -72,16 +72,16 @@ times-pos Neg = refl
 times-pos Zero = refl
 times-pos Pos = refl
 
-pub times-comm : (s t : Sign) → times s t ≡ times t s
-times-comm Neg Neg = refl
-times-comm Neg Zero = refl
-times-comm Neg Pos = refl
-times-comm Zero Neg = refl
-times-comm Zero Zero = refl
-times-comm Zero Pos = refl
-times-comm Pos Neg = refl
-times-comm Pos Zero = refl
-times-comm Pos Pos = refl
+pub times_comm : (s t : Sign) → times s t ≡ times t s
+times_comm Neg Neg = refl
+times_comm Neg Zero = refl
+times_comm Neg Pos = refl
+times_comm Zero Neg = refl
+times_comm Zero Zero = refl
+times_comm Zero Pos = refl
+times_comm Pos Neg = refl
+times_comm Pos Zero = refl
+times_comm Pos Pos = refl
 
 pub times-flip : (s t : Sign) → times s (flip t) ≡ flip (times s t)
 times-flip Neg t = refl
@@ -93,10 +93,10 @@ flip-times Neg t = sym (flip-flip t)
 flip-times Zero t = refl
 flip-times Pos t = refl
 
-pub times-assoc : (s t u : Sign) → times (times s t) u ≡ times s (times t u)
-times-assoc Neg t u = flip-times t u
-times-assoc Zero t u = refl
-times-assoc Pos t u = refl
+pub times_assoc : (s t u : Sign) → times (times s t) u ≡ times s (times t u)
+times_assoc Neg t u = flip-times t u
+times_assoc Zero t u = refl
+times_assoc Pos t u = refl
 
 -- a direction is its own inverse
 pub times-times : (s t : Sign) → NotZero s → times s (times s t) ≡ t
@@ -104,22 +104,22 @@ times-times Neg t n = flip-flip t
 times-times Zero t n = absurd n
 times-times Pos t n = refl
 
-pub times-self : (s : Sign) → NotZero s → times s s ≡ Pos
-times-self Neg n = refl
-times-self Zero n = absurd n
-times-self Pos n = refl
+pub times_self : (s : Sign) → NotZero s → times s s ≡ Pos
+times_self Neg n = refl
+times_self Zero n = absurd n
+times_self Pos n = refl
 
-pub times-not-zero : (s t : Sign) → NotZero s → NotZero t → NotZero (times s t)
-times-not-zero Neg t n m = flip-not-zero t m
-times-not-zero Zero t n m = n
-times-not-zero Pos t n m = m
+pub times_not_zero : (s t : Sign) → NotZero s → NotZero t → NotZero (times s t)
+times_not_zero Neg t n m = flip_not_zero t m
+times_not_zero Zero t n m = n
+times_not_zero Pos t n m = m
 
 -- a sign other than s is zero or opposite
-pub zero-or-flip : (s t : Sign) → NotZero s → (t ≡ s → ⊥) → (t ≡ Zero) ⊎ (t ≡ flip s)
-zero-or-flip Neg Neg n h = absurd (h refl)
-zero-or-flip Neg Zero n h = inl refl
-zero-or-flip Neg Pos n h = inr refl
-zero-or-flip Zero t n h = absurd n
-zero-or-flip Pos Neg n h = inr refl
-zero-or-flip Pos Zero n h = inl refl
-zero-or-flip Pos Pos n h = absurd (h refl)
+pub zero_or_flip : (s t : Sign) → NotZero s → (t ≡ s → ⊥) → (t ≡ Zero) ⊎ (t ≡ flip s)
+zero_or_flip Neg Neg n h = absurd (h refl)
+zero_or_flip Neg Zero n h = inl refl
+zero_or_flip Neg Pos n h = inr refl
+zero_or_flip Zero t n h = absurd n
+zero_or_flip Pos Neg n h = inr refl
+zero_or_flip Pos Zero n h = inl refl
+zero_or_flip Pos Pos n h = absurd (h refl)

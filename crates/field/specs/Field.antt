@@ -21,17 +21,17 @@ pub record RealClosedField (R : Type 0) : Type 0 where
   pub sign : R → Sign
   pub add_assoc : (x y z : R) → add (add x y) z ≡ add x (add y z)
   pub add_comm : (x y : R) → add x y ≡ add y x
-  pub add-zero : (x : R) → add x zero ≡ x
-  pub add-neg : (x : R) → add x (neg x) ≡ zero
+  pub add_zero : (x : R) → add x zero ≡ x
+  pub add_neg : (x : R) → add x (neg x) ≡ zero
   pub mul_assoc : (x y z : R) → mul (mul x y) z ≡ mul x (mul y z)
   pub mul_comm : (x y : R) → mul x y ≡ mul y x
-  pub mul-one : (x : R) → mul x one ≡ x
-  pub mul-add : (x y z : R) → mul x (add y z) ≡ add (mul x y) (mul x z)
-  pub mul-inv : (x : R) → (sign x ≡ Zero → ⊥) → mul x (inv x) ≡ one
-  pub sign-one : sign one ≡ Pos
+  pub mul_one : (x : R) → mul x one ≡ x
+  pub mul_add : (x y z : R) → mul x (add y z) ≡ add (mul x y) (mul x z)
+  pub mul_inv : (x : R) → (sign x ≡ Zero → ⊥) → mul x (inv x) ≡ one
+  pub sign_one : sign one ≡ Pos
   pub sign_zero : (x : R) → sign x ≡ Zero → x ≡ zero
-  pub sign-neg : (x : R) → sign (neg x) ≡ flip (sign x)
-  pub sign-add : (x y : R) → sign x ≡ Pos → sign y ≡ Pos → sign (add x y) ≡ Pos
-  pub sign-mul : (x y : R) → sign (mul x y) ≡ times (sign x) (sign y)
+  pub sign_neg : (x : R) → sign (neg x) ≡ flip (sign x)
+  pub sign_add : (x y : R) → sign x ≡ Pos → sign y ≡ Pos → sign (add x y) ≡ Pos
+  pub sign_mul : (x y : R) → sign (mul x y) ≡ times (sign x) (sign y)
   pub root : (cs : List R) (a b : R) → sign (add b (neg a)) ≡ Pos → sign (horner zero add mul cs a) ≡ Neg → sign (horner zero add mul cs b) ≡ Pos →
       (c : R) × (sign (add c (neg a)) ≡ Pos) × (sign (add b (neg c)) ≡ Pos) × (horner zero add mul cs c ≡ zero)

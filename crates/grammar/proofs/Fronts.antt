@@ -20,20 +20,20 @@ Within k (Read a j) = j < k
 before-next : (text : List ℕ) (i k : ℕ) → next text i < k → i < k
 before-next text i k h = cond_both (ltb i (length text)) (suc i) i (λ n. n < k → i < k) (λ _ g. omega arith) (λ _ g. g) h
 
-pub within-ahead : {A : Type 0} (r : Reader A) (text : List ℕ) (k i : ℕ) → Within k (run r text i) → i < k
+pub within_ahead : {A : Type 0} (r : Reader A) (text : List ℕ) (k i : ℕ) → Within k (run r text i) → i < k
 unfolding run
-within-ahead (Give a) text k i h = h
-within-ahead (Look on) text k i h = within-ahead (on (get_or text i 0)) text k i h
-within-ahead (Pass r) text k i h = let g : next text i < k = within-ahead r text k (next text i) h in before-next text i k g
-within-ahead (Refuse Unfit) text k i h = h
-within-ahead (Refuse Deep) text k i h = absurd h
-within-ahead (Refuse (Wrong n)) text k i h = absurd h
+within_ahead (Give a) text k i h = h
+within_ahead (Look on) text k i h = within_ahead (on (get_or text i 0)) text k i h
+within_ahead (Pass r) text k i h = let g : next text i < k = within_ahead r text k (next text i) h in before-next text i k g
+within_ahead (Refuse Unfit) text k i h = h
+within_ahead (Refuse Deep) text k i h = absurd h
+within_ahead (Refuse (Wrong n)) text k i h = absurd h
 
 pub same-front : {A : Type 0} (r : Reader A) (text other : List ℕ) (k i : ℕ) → Agree k text other → Within k (run r text i) → run r other i ≡ run r text i
 unfolding run
 same-front (Give a) text other k i agree h = refl
 same-front (Look on) text other k i agree h =
-    ap (λ c. run (on c) other i) (sym (agree.front i (within-ahead (on (get_or text i 0)) text k i h))) ∙ same-front (on (get_or text i 0)) text other k i agree h
+    ap (λ c. run (on c) other i) (sym (agree.front i (within_ahead (on (get_or text i 0)) text k i h))) ∙ same-front (on (get_or text i 0)) text other k i agree h
 same-front (Pass r) text other k i agree h =
-    ap (run r other) (sym (agree.onward i (before-next text i k (within-ahead r text k (next text i) h)))) ∙ same-front r text other k (next text i) agree h
+    ap (run r other) (sym (agree.onward i (before-next text i k (within_ahead r text k (next text i) h)))) ∙ same-front r text other k (next text i) agree h
 same-front (Refuse f) text other k i agree h = refl

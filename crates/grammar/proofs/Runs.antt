@@ -29,10 +29,10 @@ run_look on text i c e = ap (λ d. run (on d) text i) (sym e)
 
 module _ {S : Type 0} (test : S → ℕ → Bool) (turn : S → Reader S) where
   -- a loop that has had i of n turns goes on, ends at a character, or has had its turns
-  pub while-again : (n i : ℕ) (s : S) (text : List ℕ) (at : ℕ) → i < n → test s (get_or text at 0) ≡ true →
+  pub while_again : (n i : ℕ) (s : S) (text : List ℕ) (at : ℕ) → i < n → test s (get_or text at 0) ≡ true →
       run (while (n - i) test turn s) text at ≡ run (turn s >>= while (n - (i + 1)) test turn) text at
   unfolding while run
-  while-again n i s text at h e =
+  while_again n i s text at h e =
       let m : n - i ≡ suc (n - (i + 1)) = omega arith in
       ap (λ k. run (while k test turn s) text at) m ∙ ap (λ b. run (cond b (turn s >>= while (n - (i + 1)) test turn) (Give s)) text at) e
 
@@ -46,10 +46,10 @@ module _ {S : Type 0} (test : S → ℕ → Bool) (turn : S → Reader S) where
   while-over n i s text at h = let m : n - i ≡ 0 = omega arith in ap (λ k. run (while k test turn s) text at) m
 
   -- a turn that reads, and one that refuses
-  pub while-goes : (n i : ℕ) (s : S) (text : List ℕ) (at : ℕ) (s' : S) (at' : ℕ) → i < n → test s (get_or text at 0) ≡ true → run (turn s) text at ≡ Read s' at' →
+  pub while_goes : (n i : ℕ) (s : S) (text : List ℕ) (at : ℕ) (s' : S) (at' : ℕ) → i < n → test s (get_or text at 0) ≡ true → run (turn s) text at ≡ Read s' at' →
       run (while (n - i) test turn s) text at ≡ run (while (n - (i + 1)) test turn s') text at'
-  while-goes n i s text at s' at' h e r = while-again n i s text at h e ∙ goes_on (turn s) (while (n - (i + 1)) test turn) text at s' at' r
+  while_goes n i s text at s' at' h e r = while_again n i s text at h e ∙ goes_on (turn s) (while (n - (i + 1)) test turn) text at s' at' r
 
-  pub while-stops : (n i : ℕ) (s : S) (text : List ℕ) (at : ℕ) (f : Refusal) → i < n → test s (get_or text at 0) ≡ true → run (turn s) text at ≡ Refused f →
+  pub while_stops : (n i : ℕ) (s : S) (text : List ℕ) (at : ℕ) (f : Refusal) → i < n → test s (get_or text at 0) ≡ true → run (turn s) text at ≡ Refused f →
       run (while (n - i) test turn s) text at ≡ Refused f
-  while-stops n i s text at f h e r = while-again n i s text at h e ∙ stops (turn s) (while (n - (i + 1)) test turn) text at f r
+  while_stops n i s text at f h e r = while_again n i s text at h e ∙ stops (turn s) (while (n - (i + 1)) test turn) text at f r

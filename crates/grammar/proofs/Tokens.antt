@@ -6,12 +6,12 @@ use Rattle.grammar.specs.declared.word.Word.{Word}
 use Rattle.grammar.specs.Characters.{is_blank, is_letter, is_digit}
 use Rattle.grammar.specs.Reader.{Give, Look, Pass, Refuse, Refused, Read, refusal_at, ◌>>=◌, next, run}
 use Rattle.grammar.specs.Tokens.{blanks_for, exactly, with_letter, letters_for, digits_for}
-use Rattle.grammar.proofs.Runs.{while-again, while-ended, while-over}
+use Rattle.grammar.proofs.Runs.{while_again, while-ended, while-over}
 
-pub blanks-again : (n i : ℕ) (text : List ℕ) (at : ℕ) → i < n → is_blank (get_or text at 0) ≡ true →
+pub blanks_again : (n i : ℕ) (text : List ℕ) (at : ℕ) → i < n → is_blank (get_or text at 0) ≡ true →
     run (blanks_for (n - i)) text at ≡ run (blanks_for (n - (i + 1))) text (next text at)
 unfolding blanks_for run ◌>>=◌
-blanks-again n i text at h e = while-again (λ _ c. is_blank c) (λ _. Pass (Give tt)) n i tt text at h e
+blanks_again n i text at h e = while_again (λ _ c. is_blank c) (λ _. Pass (Give tt)) n i tt text at h e
 
 pub blanks-ended : (n : ℕ) (text : List ℕ) (at : ℕ) → is_blank (get_or text at 0) ≡ false → run (blanks_for n) text at ≡ Read tt at
 unfolding blanks_for
@@ -21,10 +21,10 @@ pub blanks-over : (n i : ℕ) (text : List ℕ) (at : ℕ) → n ≤ i → run (
 unfolding blanks_for
 blanks-over n i text at h = while-over (λ _ c. is_blank c) (λ _. Pass (Give tt)) n i tt text at h
 
-pub letters-again : (n i : ℕ) (w : Word) (text : List ℕ) (at : ℕ) → i < n → is_letter (get_or text at 0) ≡ true →
+pub letters_again : (n i : ℕ) (w : Word) (text : List ℕ) (at : ℕ) → i < n → is_letter (get_or text at 0) ≡ true →
     run (letters_for (n - i) w) text at ≡ run (letters_for (n - (i + 1)) (with_letter w (get_or text at 0))) text (next text at)
 unfolding letters_for run ◌>>=◌
-letters-again n i w text at h e = while-again (λ _ c. is_letter c) (λ v. Look (λ c. Pass (Give (with_letter v c)))) n i w text at h e
+letters_again n i w text at h e = while_again (λ _ c. is_letter c) (λ v. Look (λ c. Pass (Give (with_letter v c)))) n i w text at h e
 
 pub letters-ended : (n : ℕ) (w : Word) (text : List ℕ) (at : ℕ) → is_letter (get_or text at 0) ≡ false → run (letters_for n w) text at ≡ Read w at
 unfolding letters_for
@@ -34,11 +34,11 @@ pub letters-over : (n i : ℕ) (w : Word) (text : List ℕ) (at : ℕ) → n ≤
 unfolding letters_for
 letters-over n i w text at h = while-over (λ _ c. is_letter c) (λ v. Look (λ c. Pass (Give (with_letter v c)))) n i w text at h
 
-pub digits-again : (k i n : ℕ) (text : List ℕ) (at : ℕ) → i < k → (is_digit (get_or text at 0) && leb (n * 10 + (get_or text at 0 - 48)) 65535) ≡ true →
+pub digits_again : (k i n : ℕ) (text : List ℕ) (at : ℕ) → i < k → (is_digit (get_or text at 0) && leb (n * 10 + (get_or text at 0 - 48)) 65535) ≡ true →
     run (digits_for (k - i) n) text at ≡ run (digits_for (k - (i + 1)) (n * 10 + (get_or text at 0 - 48))) text (next text at)
 unfolding digits_for run ◌>>=◌
-digits-again k i n text at h e =
-    while-again (λ m c. is_digit c && leb (m * 10 + (c - 48)) 65535) (λ m. Look (λ c. Pass (Give (m * 10 + (c - 48))))) k i n text at h e
+digits_again k i n text at h e =
+    while_again (λ m c. is_digit c && leb (m * 10 + (c - 48)) 65535) (λ m. Look (λ c. Pass (Give (m * 10 + (c - 48))))) k i n text at h e
 
 pub digits-ended : (k n : ℕ) (text : List ℕ) (at : ℕ) → (is_digit (get_or text at 0) && leb (n * 10 + (get_or text at 0 - 48)) 65535) ≡ false →
     run (digits_for k n) text at ≡ Read n at
@@ -51,17 +51,17 @@ digits-over k i n text at h =
     while-over (λ m c. is_digit c && leb (m * 10 + (c - 48)) 65535) (λ m. Look (λ c. Pass (Give (m * 10 + (c - 48))))) k i n text at h
 
 -- the characters of a sign, one by one
-pub exactly-again : (cs : List ℕ) (i : ℕ) (text : List ℕ) (at : ℕ) → i < length cs → get_or text at 0 ≡ get_or cs i 0 →
+pub exactly_again : (cs : List ℕ) (i : ℕ) (text : List ℕ) (at : ℕ) → i < length cs → get_or text at 0 ≡ get_or cs i 0 →
     run (exactly (drop i cs)) text at ≡ run (exactly (drop (i + 1) cs)) text (next text at)
 unfolding exactly run
-exactly-again cs i text at h e =
+exactly_again cs i text at h e =
     ap (λ ds. run (exactly ds) text at) (drop-cons cs i 0 h) ∙
     ap (λ b. run (cond b (Pass (exactly (drop (suc i) cs))) (Refuse Unfit)) text at) (eq-eqb (get_or text at 0) (get_or cs i 0) e) ∙
     ap (λ k. run (exactly (drop k cs)) text (next text at)) (sym (add-one i))
 
-pub exactly-not : (cs : List ℕ) (i : ℕ) (text : List ℕ) (at : ℕ) → i < length cs → (get_or text at 0 ≡ get_or cs i 0 → ⊥) →
+pub exactly_not : (cs : List ℕ) (i : ℕ) (text : List ℕ) (at : ℕ) → i < length cs → (get_or text at 0 ≡ get_or cs i 0 → ⊥) →
     run (exactly (drop i cs)) text at ≡ Refused (refusal_at Unfit at)
 unfolding exactly run
-exactly-not cs i text at h e =
+exactly_not cs i text at h e =
     ap (λ ds. run (exactly ds) text at) (drop-cons cs i 0 h) ∙
     ap (λ b. run (cond b (Pass (exactly (drop (suc i) cs))) (Refuse Unfit)) text at) (ne_eqb (get_or text at 0) (get_or cs i 0) e)

@@ -21,15 +21,15 @@ capped-mul a b (suc k) e = decided (ℕ_discrete a b)
         let p : a ≤ a * suc k = le-mul_of_pos_right a (omega arith) in
         let q : b ≤ b * suc k = le-mul_of_pos_right b (omega arith) in omega arith
 
-pub capped-mul-right : (k a b : ℕ) → capped a ≡ capped b → capped (k * a) ≡ capped (k * b)
-capped-mul-right k a b e = ap capped (mul_comm k a) ∙ capped-mul a b k e ∙ ap capped (mul_comm b k)
+pub capped-mul_right : (k a b : ℕ) → capped a ≡ capped b → capped (k * a) ≡ capped (k * b)
+capped-mul_right k a b e = ap capped (mul_comm k a) ∙ capped-mul a b k e ∙ ap capped (mul_comm b k)
 
 -- the tree of a conjunction, counted: x stands for the second formula's tree, which stands yes times in the first's
 pub capped-join : (a b c a' b' c' x y n : ℕ) → capped x ≡ capped (a' + (b' * y + c' * n)) →
     capped (a + (b * x + c * n)) ≡ capped (capped (a + b * a') + (capped (b * b') * y + capped (c + b * c') * n))
 capped-join a b c a' b' c' x y n e =
     capped-add a a (b * x + c * n) (b * (a' + (b' * y + c' * n)) + c * n) refl
-    (capped-add (b * x) (b * (a' + (b' * y + c' * n))) (c * n) (c * n) (capped-mul-right b x (a' + (b' * y + c' * n)) e) refl) ∙
+    (capped-add (b * x) (b * (a' + (b' * y + c' * n))) (c * n) (c * n) (capped-mul_right b x (a' + (b' * y + c' * n)) e) refl) ∙
     ap capped regrouped ∙
     sym (capped-add (capped (a + b * a')) (a + b * a') (capped (b * b') * y + capped (c + b * c') * n) ((b * b') * y + (c + b * c') * n) (capped-capped (a + b * a'))
     (capped-add (capped (b * b') * y) ((b * b') * y) (capped (c + b * c') * n) ((c + b * c') * n)

@@ -19,32 +19,32 @@ counted o y n = o.questions + (o.yes * y + o.no * n)
 swapped : (o : Outline) (y n : ℕ) → counted (negated o) y n ≡ counted o n y
 swapped o y n = omega arith
 
-below-counts : (z : Option ℤ) (y n : Tree) → capped (questions (asks z y n n)) ≡ capped (counted (compared z ToYes ToNo ToNo 1 2) (questions y) (questions n))
+below_counts : (z : Option ℤ) (y n : Tree) → capped (questions (asks z y n n)) ≡ capped (counted (compared z ToYes ToNo ToNo 1 2) (questions y) (questions n))
 unfolding questions
-below-counts None y n = omega arith
-below-counts (Some z) y n = omega arith
+below_counts None y n = omega arith
+below_counts (Some z) y n = omega arith
 
-equals-counts : (z : Option ℤ) (y n : Tree) → capped (questions (asks z n y n)) ≡ capped (counted (compared z ToNo ToYes ToNo 1 2) (questions y) (questions n))
+equals_counts : (z : Option ℤ) (y n : Tree) → capped (questions (asks z n y n)) ≡ capped (counted (compared z ToNo ToYes ToNo 1 2) (questions y) (questions n))
 unfolding questions
-equals-counts None y n = omega arith
-equals-counts (Some z) y n = omega arith
+equals_counts None y n = omega arith
+equals_counts (Some z) y n = omega arith
 
 -- y, n and x are the questions of the ends and of the second formula's tree
-joined-counts : (o r : Outline) (x y n : ℕ) → capped x ≡ capped (counted r y n) → capped (counted o x n) ≡ capped (counted (conjoined o r) y n)
-joined-counts o r x y n e = capped-join o.questions o.yes o.no r.questions r.yes r.no x y n e
+joined_counts : (o r : Outline) (x y n : ℕ) → capped x ≡ capped (counted r y n) → capped (counted o x n) ≡ capped (counted (conjoined o r) y n)
+joined_counts o r x y n e = capped-join o.questions o.yes o.no r.questions r.yes r.no x y n e
 
-outline-counts : (p : Formula) (y n : Tree) → capped (questions (tree_of p y n)) ≡ capped (counted (outline_of p) (questions y) (questions n))
+outline_counts : (p : Formula) (y n : Tree) → capped (questions (tree_of p y n)) ≡ capped (counted (outline_of p) (questions y) (questions n))
 unfolding tree_of outline_of
-outline-counts (BelowZero t) y n = below-counts (number_of t) y n
-outline-counts (EqualsZero t) y n = equals-counts (number_of t) y n
-outline-counts (Not p) y n = outline-counts p n y ∙ sym (ap capped (swapped (outline_of p) (questions y) (questions n)))
-outline-counts (And p q) y n =
-    outline-counts p (tree_of q y n) n ∙ joined-counts (outline_of p) (outline_of q) (questions (tree_of q y n)) (questions y) (questions n) (outline-counts q y n)
-outline-counts (Or p q) y n =
-    outline-counts p y (tree_of q y n) ∙
+outline_counts (BelowZero t) y n = below_counts (number_of t) y n
+outline_counts (EqualsZero t) y n = equals_counts (number_of t) y n
+outline_counts (Not p) y n = outline_counts p n y ∙ sym (ap capped (swapped (outline_of p) (questions y) (questions n)))
+outline_counts (And p q) y n =
+    outline_counts p (tree_of q y n) n ∙ joined_counts (outline_of p) (outline_of q) (questions (tree_of q y n)) (questions y) (questions n) (outline_counts q y n)
+outline_counts (Or p q) y n =
+    outline_counts p y (tree_of q y n) ∙
     sym (ap capped (swapped (outline_of p) (questions (tree_of q y n)) (questions y))) ∙
-    joined-counts (negated (outline_of p)) (negated (outline_of q)) (questions (tree_of q y n)) (questions n) (questions y)
-    (outline-counts q y n ∙ sym (ap capped (swapped (outline_of q) (questions n) (questions y)))) ∙
+    joined_counts (negated (outline_of p)) (negated (outline_of q)) (questions (tree_of q y n)) (questions n) (questions y)
+    (outline_counts q y n ∙ sym (ap capped (swapped (outline_of q) (questions n) (questions y)))) ∙
     sym (ap capped (swapped (conjoined (negated (outline_of p)) (negated (outline_of q))) (questions y) (questions n)))
 
 -- the verdict at the end that is led to
@@ -61,55 +61,55 @@ at_sign (pos k) a b c y n = under (eqb k 0)
     under false = refl
 at_sign (negsuc k) a b c y n = refl
 
-at-negated : (e : End) (y n : Verdict) → at (onward e ToNo ToYes Nowhere) y n ≡ at e n y
-at-negated ToYes y n = refl
-at-negated ToNo y n = refl
-at-negated Nowhere y n = refl
+at_negated : (e : End) (y n : Verdict) → at (onward e ToNo ToYes Nowhere) y n ≡ at e n y
+at_negated ToYes y n = refl
+at_negated ToNo y n = refl
+at_negated Nowhere y n = refl
 
-at-conjoined : (d e : End) (y n : Verdict) → at d (at e y n) n ≡ at (onward d e ToNo Nowhere) y n
-at-conjoined ToYes e y n = refl
-at-conjoined ToNo e y n = refl
-at-conjoined Nowhere e y n = refl
+at_conjoined : (d e : End) (y n : Verdict) → at d (at e y n) n ≡ at (onward d e ToNo Nowhere) y n
+at_conjoined ToYes e y n = refl
+at_conjoined ToNo e y n = refl
+at_conjoined Nowhere e y n = refl
 
-compared-leads : (z : Option ℤ) (a b c : Tree) (d e f : End) (k l : ℕ) (y n : Verdict) → followed a ≡ at d y n → followed b ≡ at e y n → followed c ≡ at f y n →
+compared_leads : (z : Option ℤ) (a b c : Tree) (d e f : End) (k l : ℕ) (y n : Verdict) → followed a ≡ at d y n → followed b ≡ at e y n → followed c ≡ at f y n →
     followed (asks z a b c) ≡ at (compared z d e f k l).end y n
 unfolding followed
-compared-leads None a b c d e f k l y n p q r = refl
-compared-leads (Some z) a b c d e f k l y n p q r = rw (p, q, r) (at_sign z d e f y n)
+compared_leads None a b c d e f k l y n p q r = refl
+compared_leads (Some z) a b c d e f k l y n p q r = rw (p, q, r) (at_sign z d e f y n)
 
-outline-leads : (p : Formula) (y n : Tree) → followed (tree_of p y n) ≡ at (outline_of p).end (followed y) (followed n)
+outline_leads : (p : Formula) (y n : Tree) → followed (tree_of p y n) ≡ at (outline_of p).end (followed y) (followed n)
 unfolding tree_of outline_of
-outline-leads (BelowZero t) y n = compared-leads (number_of t) y n n ToYes ToNo ToNo 1 2 (followed y) (followed n) refl refl refl
-outline-leads (EqualsZero t) y n = compared-leads (number_of t) n y n ToNo ToYes ToNo 1 2 (followed y) (followed n) refl refl refl
-outline-leads (Not p) y n = outline-leads p n y ∙ sym (at-negated (outline_of p).end (followed y) (followed n))
-outline-leads (And p q) y n =
-    outline-leads p (tree_of q y n) n ∙
-    ap (λ v. at (outline_of p).end v (followed n)) (outline-leads q y n) ∙
-    at-conjoined (outline_of p).end (outline_of q).end (followed y) (followed n)
-outline-leads (Or p q) y n =
+outline_leads (BelowZero t) y n = compared_leads (number_of t) y n n ToYes ToNo ToNo 1 2 (followed y) (followed n) refl refl refl
+outline_leads (EqualsZero t) y n = compared_leads (number_of t) n y n ToNo ToYes ToNo 1 2 (followed y) (followed n) refl refl refl
+outline_leads (Not p) y n = outline_leads p n y ∙ sym (at_negated (outline_of p).end (followed y) (followed n))
+outline_leads (And p q) y n =
+    outline_leads p (tree_of q y n) n ∙
+    ap (λ v. at (outline_of p).end v (followed n)) (outline_leads q y n) ∙
+    at_conjoined (outline_of p).end (outline_of q).end (followed y) (followed n)
+outline_leads (Or p q) y n =
     let d = (outline_of p).end in
     let e = (outline_of q).end in
-    outline-leads p y (tree_of q y n) ∙
-    ap (λ v. at d (followed y) v) (outline-leads q y n ∙ sym (at-negated e (followed n) (followed y))) ∙
-    sym (at-negated d (at (onward e ToNo ToYes Nowhere) (followed n) (followed y)) (followed y)) ∙
-    at-conjoined (onward d ToNo ToYes Nowhere) (onward e ToNo ToYes Nowhere) (followed n) (followed y) ∙
-    sym (at-negated (onward (onward d ToNo ToYes Nowhere) (onward e ToNo ToYes Nowhere) ToNo Nowhere) (followed y) (followed n))
+    outline_leads p y (tree_of q y n) ∙
+    ap (λ v. at d (followed y) v) (outline_leads q y n ∙ sym (at_negated e (followed n) (followed y))) ∙
+    sym (at_negated d (at (onward e ToNo ToYes Nowhere) (followed n) (followed y)) (followed y)) ∙
+    at_conjoined (onward d ToNo ToYes Nowhere) (onward e ToNo ToYes Nowhere) (followed n) (followed y) ∙
+    sym (at_negated (onward (onward d ToNo ToYes Nowhere) (onward e ToNo ToYes Nowhere) ToNo Nowhere) (followed y) (followed n))
 
-at-ends : (e : End) → ending e ≡ at e (followed Yes) (followed No)
+at_ends : (e : End) → ending e ≡ at e (followed Yes) (followed No)
 unfolding followed
-at-ends ToYes = refl
-at-ends ToNo = refl
-at-ends Nowhere = refl
+at_ends ToYes = refl
+at_ends ToNo = refl
+at_ends Nowhere = refl
 
-no-ends : (o : Outline) → counted o (questions Yes) (questions No) ≡ o.questions
+no_ends : (o : Outline) → counted o (questions Yes) (questions No) ≡ o.questions
 unfolding questions
-no-ends o = omega arith
+no_ends o = omega arith
 
-pub outline-answers : (p : Formula) → concluded (outline_of p) ≡ answered (tree_of p Yes No)
-outline-answers p =
+pub outline_answers : (p : Formula) → concluded (outline_of p) ≡ answered (tree_of p Yes No)
+outline_answers p =
     ap₂ (λ t v. cond t v GivenUp)
-    (capped-below (outline_of p).questions (questions (tree_of p Yes No)) (sym (outline-counts p Yes No ∙ ap capped (no-ends (outline_of p)))))
-    (at-ends (outline_of p).end ∙ sym (outline-leads p Yes No))
+    (capped-below (outline_of p).questions (questions (tree_of p Yes No)) (sym (outline_counts p Yes No ∙ ap capped (no_ends (outline_of p)))))
+    (at_ends (outline_of p).end ∙ sym (outline_leads p Yes No))
 
 -- a sentence, once it is known how many quantifiers it has
 abbrev bodied : List Bool → Formula → Sentence
@@ -125,25 +125,25 @@ sentence_from m = then m (λ n rest. quantified n (quantifiers_at n rest))
 abbrev kept : Bool → Reading Sentence → Option Sentence
 kept short m = cond short (whole m) None
 
-none-there : (o : Option Sentence) → is_there o ≡ true → o ≡ None → ⊥
-none-there o h e = let z : ◌≡◌ {A = ℕ} 0 1 = cc in omega arith
+none_there : (o : Option Sentence) → is_there o ≡ true → o ≡ None → ⊥
+none_there o h e = let z : ◌≡◌ {A = ℕ} 0 1 = cc in omega arith
 
 no_body : (short : Bool) → kept short Refused ≡ None
 no_body true = refl
 no_body false = refl
 
-with-no-quantifier : (short : Bool) (m : Reading Formula) → is_there (kept short (mapped (bodied []) m)) ≡ true → concluded_by m ≡ verdict_if (kept short (mapped (bodied []) m))
-with-no-quantifier false m h = let z : ◌≡◌ {A = ℕ} 0 1 = cc in absurd (omega arith)
-with-no-quantifier true Refused h = let z : ◌≡◌ {A = ℕ} 0 1 = cc in absurd (omega arith)
-with-no-quantifier true (Read p []) h = outline-answers p
-with-no-quantifier true (Read p (z ∷ zs)) h = let o : ◌≡◌ {A = ℕ} 0 1 = cc in absurd (omega arith)
+with_no_quantifier : (short : Bool) (m : Reading Formula) → is_there (kept short (mapped (bodied []) m)) ≡ true → concluded_by m ≡ verdict_if (kept short (mapped (bodied []) m))
+with_no_quantifier false m h = let z : ◌≡◌ {A = ℕ} 0 1 = cc in absurd (omega arith)
+with_no_quantifier true Refused h = let z : ◌≡◌ {A = ℕ} 0 1 = cc in absurd (omega arith)
+with_no_quantifier true (Read p []) h = outline_answers p
+with_no_quantifier true (Read p (z ∷ zs)) h = let o : ◌≡◌ {A = ℕ} 0 1 = cc in absurd (omega arith)
 
-with-quantifiers : (short : Bool) (q : Bool) (qs : List Bool) (m : Reading Formula) → is_there (kept short (mapped (bodied (q ∷ qs)) m)) ≡ true →
+with_quantifiers : (short : Bool) (q : Bool) (qs : List Bool) (m : Reading Formula) → is_there (kept short (mapped (bodied (q ∷ qs)) m)) ≡ true →
     NotDecided ≡ verdict_if (kept short (mapped (bodied (q ∷ qs)) m))
-with-quantifiers false q qs m h = let z : ◌≡◌ {A = ℕ} 0 1 = cc in absurd (omega arith)
-with-quantifiers true q qs Refused h = let z : ◌≡◌ {A = ℕ} 0 1 = cc in absurd (omega arith)
-with-quantifiers true q qs (Read p []) h = refl
-with-quantifiers true q qs (Read p (z ∷ zs)) h = let o : ◌≡◌ {A = ℕ} 0 1 = cc in absurd (omega arith)
+with_quantifiers false q qs m h = let z : ◌≡◌ {A = ℕ} 0 1 = cc in absurd (omega arith)
+with_quantifiers true q qs Refused h = let z : ◌≡◌ {A = ℕ} 0 1 = cc in absurd (omega arith)
+with_quantifiers true q qs (Read p []) h = refl
+with_quantifiers true q qs (Read p (z ∷ zs)) h = let o : ◌≡◌ {A = ℕ} 0 1 = cc in absurd (omega arith)
 
 some-quantifiers : (short : Bool) (n : ℕ) (rest : List ℤ) → (n ≡ 0 → ⊥) → is_there (kept short (quantified n (quantifiers_at n rest))) ≡ true →
     NotDecided ≡ verdict_if (kept short (quantified n (quantifiers_at n rest)))
@@ -153,35 +153,35 @@ some-quantifiers short (suc n) rest h s = first (meant quantifier_of rest) s
   where
     later : (q : Bool) (m : Reading (List Bool)) → is_there (kept short (quantified (suc n) (mapped (λ qs. q ∷ qs) m))) ≡ true →
         NotDecided ≡ verdict_if (kept short (quantified (suc n) (mapped (λ qs. q ∷ qs) m)))
-    later q Refused t = absurd (none-there (kept short Refused) t (no_body short))
-    later q (Read qs body) t = with-quantifiers short q qs (formula_at 1024 (suc n) body) t
+    later q Refused t = absurd (none_there (kept short Refused) t (no_body short))
+    later q (Read qs body) t = with_quantifiers short q qs (formula_at 1024 (suc n) body) t
 
     first : (m : Reading Bool) → is_there (kept short (quantified (suc n) (then m (λ q more. mapped (λ qs. q ∷ qs) (quantifiers_at n more))))) ≡ true →
         NotDecided ≡ verdict_if (kept short (quantified (suc n) (then m (λ q more. mapped (λ qs. q ∷ qs) (quantifiers_at n more)))))
-    first Refused t = absurd (none-there (kept short Refused) t (no_body short))
+    first Refused t = absurd (none_there (kept short Refused) t (no_body short))
     first (Read q more) t = later q (quantifiers_at n more) t
 
 -- the verdict on words that are a sentence
 module _ (zs rest : List ℤ) (sentence : is_sentence zs ≡ true) where
-  pub ground-verdict : Read 0 rest ≡ meant count_of zs → concluded_by (formula_at 1024 0 rest) ≡ verdict_of zs
+  pub ground_verdict : Read 0 rest ≡ meant count_of zs → concluded_by (formula_at 1024 0 rest) ≡ verdict_of zs
   unfolding quantifiers_at
-  ground-verdict e =
+  ground_verdict e =
       let short = leb (length zs) 1024 in
       subst (λ m. is_there (kept short (sentence_from m)) ≡ true → concluded_by (formula_at 1024 0 rest) ≡ verdict_if (kept short (sentence_from m))) e
-      (with-no-quantifier short (formula_at 1024 0 rest)) sentence
+      (with_no_quantifier short (formula_at 1024 0 rest)) sentence
 
-  pub quantified-verdict : (n : ℕ) → (n ≡ 0 → ⊥) → Read n rest ≡ meant count_of zs → NotDecided ≡ verdict_of zs
-  quantified-verdict n h e =
+  pub quantified_verdict : (n : ℕ) → (n ≡ 0 → ⊥) → Read n rest ≡ meant count_of zs → NotDecided ≡ verdict_of zs
+  quantified_verdict n h e =
       let short = leb (length zs) 1024 in
       subst (λ m. is_there (kept short (sentence_from m)) ≡ true → NotDecided ≡ verdict_if (kept short (sentence_from m))) e (some-quantifiers short n rest h) sentence
 
-pub no-count-verdict : (zs : List ℤ) → Refused ≡ meant count_of zs → NotASentence ≡ verdict_of zs
-no-count-verdict zs e =
+pub no_count-verdict : (zs : List ℤ) → Refused ≡ meant count_of zs → NotASentence ≡ verdict_of zs
+no_count-verdict zs e =
     let short = leb (length zs) 1024 in
     subst (λ m. NotASentence ≡ verdict_if (kept short (sentence_from m))) e (sym (ap verdict_if (no_body short)))
 
-pub no-sentence-verdict : (zs : List ℤ) → is_sentence zs ≡ false → NotASentence ≡ verdict_of zs
-no-sentence-verdict zs = among (sentence_of zs)
+pub no_sentence-verdict : (zs : List ℤ) → is_sentence zs ≡ false → NotASentence ≡ verdict_of zs
+no_sentence-verdict zs = among (sentence_of zs)
   where
     among : (o : Option Sentence) → is_there o ≡ false → NotASentence ≡ verdict_if o
     among None h = refl

@@ -29,49 +29,49 @@ module _ (go : List ℤ → Reading Term) (zs : List ℤ) where
   product-number = mapped-two number_of number_of Product (on_both (λ x y. modest (x *ℤ y))) (λ s t. refl) go zs
 
 -- there are no variables
-no-variable : (zs : List ℤ) → meant (variable_of 0) zs ≡ Refused
-no-variable [] = refl
-no-variable (pos i ∷ zs) = ap (λ b. if_some (cond b (Some i) None) zs) (leb-suc-zero i)
-no-variable (negsuc i ∷ zs) = refl
+no_variable : (zs : List ℤ) → meant (variable_of 0) zs ≡ Refused
+no_variable [] = refl
+no_variable (pos i ∷ zs) = ap (λ b. if_some (cond b (Some i) None) zs) (leb-suc-zero i)
+no_variable (negsuc i ∷ zs) = refl
 
-pub no-ground-term : (go : List ℤ → Reading Term) (k : Kind) (zs : List ℤ) →
+pub no_ground_term : (go : List ℤ → Reading Term) (k : Kind) (zs : List ℤ) →
     (k ≡ Kind.Variable) ⊎ ((k ≡ Kind.BelowZero) ⊎ ((k ≡ Kind.EqualsZero) ⊎ ((k ≡ Kind.Not) ⊎ ((k ≡ Kind.And) ⊎ (k ≡ Kind.Or))))) → term_by 0 go k zs ≡ Refused
-no-ground-term go k zs (inl e) = rw e (ap (mapped Var) (no-variable zs))
-no-ground-term go k zs (inr (inl e)) = rw e
-no-ground-term go k zs (inr (inr (inl e))) = rw e
-no-ground-term go k zs (inr (inr (inr (inl e)))) = rw e
-no-ground-term go k zs (inr (inr (inr (inr (inl e))))) = rw e
-no-ground-term go k zs (inr (inr (inr (inr (inr e))))) = rw e
+no_ground_term go k zs (inl e) = rw e (ap (mapped Var) (no_variable zs))
+no_ground_term go k zs (inr (inl e)) = rw e
+no_ground_term go k zs (inr (inr (inl e))) = rw e
+no_ground_term go k zs (inr (inr (inr (inl e)))) = rw e
+no_ground_term go k zs (inr (inr (inr (inr (inl e))))) = rw e
+no_ground_term go k zs (inr (inr (inr (inr (inr e))))) = rw e
 
 module _ (term : List ℤ → Reading Term) (go : List ℤ → Reading Formula) (zs : List ℤ) where
-  pub below-outline : mapped outline_of (formula_by term go Kind.BelowZero zs) ≡ mapped (λ v. compared v ToYes ToNo ToNo 1 2) (mapped number_of (term zs))
+  pub below_outline : mapped outline_of (formula_by term go Kind.BelowZero zs) ≡ mapped (λ v. compared v ToYes ToNo ToNo 1 2) (mapped number_of (term zs))
   unfolding outline_of
-  below-outline = twice (term zs)
+  below_outline = twice (term zs)
     where
       twice : (m : Reading Term) → mapped outline_of (mapped BelowZero m) ≡ mapped (λ v. compared v ToYes ToNo ToNo 1 2) (mapped number_of m)
       twice Refused = refl
       twice (Read t more) = refl
 
-  pub equals-outline : mapped outline_of (formula_by term go Kind.EqualsZero zs) ≡ mapped (λ v. compared v ToNo ToYes ToNo 1 2) (mapped number_of (term zs))
+  pub equals_outline : mapped outline_of (formula_by term go Kind.EqualsZero zs) ≡ mapped (λ v. compared v ToNo ToYes ToNo 1 2) (mapped number_of (term zs))
   unfolding outline_of
-  equals-outline = twice (term zs)
+  equals_outline = twice (term zs)
     where
       twice : (m : Reading Term) → mapped outline_of (mapped EqualsZero m) ≡ mapped (λ v. compared v ToNo ToYes ToNo 1 2) (mapped number_of m)
       twice Refused = refl
       twice (Read t more) = refl
 
-  pub not-outline : mapped outline_of (formula_by term go Kind.Not zs) ≡ mapped negated (mapped outline_of (go zs))
+  pub not_outline : mapped outline_of (formula_by term go Kind.Not zs) ≡ mapped negated (mapped outline_of (go zs))
   unfolding outline_of
-  not-outline = twice (go zs)
+  not_outline = twice (go zs)
     where
       twice : (m : Reading Formula) → mapped outline_of (mapped Not m) ≡ mapped negated (mapped outline_of m)
       twice Refused = refl
       twice (Read p more) = refl
 
-  pub and-outline : mapped outline_of (formula_by term go Kind.And zs) ≡ two conjoined (λ ws. mapped outline_of (go ws)) zs
+  pub and_outline : mapped outline_of (formula_by term go Kind.And zs) ≡ two conjoined (λ ws. mapped outline_of (go ws)) zs
   unfolding outline_of
-  and-outline = mapped-two outline_of outline_of And conjoined (λ p q. refl) go zs
+  and_outline = mapped-two outline_of outline_of And conjoined (λ p q. refl) go zs
 
-  pub or-outline : mapped outline_of (formula_by term go Kind.Or zs) ≡ two (λ p q. negated (conjoined (negated p) (negated q))) (λ ws. mapped outline_of (go ws)) zs
+  pub or_outline : mapped outline_of (formula_by term go Kind.Or zs) ≡ two (λ p q. negated (conjoined (negated p) (negated q))) (λ ws. mapped outline_of (go ws)) zs
   unfolding outline_of
-  or-outline = mapped-two outline_of outline_of Or (λ p q. negated (conjoined (negated p) (negated q))) (λ p q. refl) go zs
+  or_outline = mapped-two outline_of outline_of Or (λ p q. negated (conjoined (negated p) (negated q))) (λ p q. refl) go zs

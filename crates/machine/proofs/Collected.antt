@@ -20,40 +20,40 @@ suffix_refl ps = ([], refl)
 suffix_trans : {ps qs rs : List Poly} → Suffix ps qs → Suffix qs rs → Suffix ps rs
 suffix_trans {ps} {qs} {rs} h k = (k.0 ++ h.0, k.1 ∙ (ap (λ x. k.0 ++ x) h.1 ∙ sym (append_assoc k.0 h.0 ps)))
 
-noted-grows : (v : ℕ) (p : Poly) (ps : List Poly) → Suffix ps (noted v p ps)
-noted-grows v p ps = either (is_among v p ps)
+noted_grows : (v : ℕ) (p : Poly) (ps : List Poly) → Suffix ps (noted v p ps)
+noted_grows v p ps = either (is_among v p ps)
   where
     either : (b : Bool) → Suffix ps (cond b ps (p ∷ ps))
     either true = suffix_refl ps
     either false = (p ∷ [], refl)
 
-pub asked-grows : (v : ℕ) (t : Tree) (ps : List Poly) → Suffix ps (asked v t ps)
+pub asked_grows : (v : ℕ) (t : Tree) (ps : List Poly) → Suffix ps (asked v t ps)
 unfolding asked
-asked-grows v Yes ps = suffix_refl ps
-asked-grows v No ps = suffix_refl ps
-asked-grows v GivenUp ps = suffix_refl ps
-asked-grows v (Ask p a b c) ps =
+asked_grows v Yes ps = suffix_refl ps
+asked_grows v No ps = suffix_refl ps
+asked_grows v GivenUp ps = suffix_refl ps
+asked_grows v (Ask p a b c) ps =
     let cs = asked v c ps in
     let bs = asked v b cs in
-    suffix_trans (asked-grows v c ps) (suffix_trans (asked-grows v b cs) (suffix_trans (asked-grows v a bs) (noted-grows v p (asked v a bs))))
+    suffix_trans (asked_grows v c ps) (suffix_trans (asked_grows v b cs) (suffix_trans (asked_grows v a bs) (noted_grows v p (asked v a bs))))
 
-collected_in-grows : (n : ℕ) (qs : List Question) (ps : List Poly) → Suffix ps (collected_in n qs ps)
+collected_in_grows : (n : ℕ) (qs : List Question) (ps : List Poly) → Suffix ps (collected_in n qs ps)
 unfolding collected_in
-collected_in-grows n [] ps = suffix_refl ps
-collected_in-grows n (Open p Above phase ∷ qs) ps =
+collected_in_grows n [] ps = suffix_refl ps
+collected_in_grows n (Open p Above phase ∷ qs) ps =
     let at = asked n (phase_outline n (assumed n p Zero phase)) ps in
     let below = asked n (phase_outline n (assumed n p Neg phase)) at in
-    suffix_trans (asked-grows n (phase_outline n (assumed n p Zero phase)) ps)
-    (suffix_trans (asked-grows n (phase_outline n (assumed n p Neg phase)) at) (suffix_trans (noted-grows n (leading n p) below) (collected_in-grows n qs (noted n (leading n p) below))))
-collected_in-grows n (Open p (At c) phase ∷ qs) ps =
+    suffix_trans (asked_grows n (phase_outline n (assumed n p Zero phase)) ps)
+    (suffix_trans (asked_grows n (phase_outline n (assumed n p Neg phase)) at) (suffix_trans (noted_grows n (leading n p) below) (collected_in_grows n qs (noted n (leading n p) below))))
+collected_in_grows n (Open p (At c) phase ∷ qs) ps =
     let below = asked n (phase_outline n (assumed n p Neg phase)) ps in
-    suffix_trans (asked-grows n (phase_outline n (assumed n p Neg phase)) ps) (suffix_trans (noted-grows n (leading n p) below) (collected_in-grows n qs (noted n (leading n p) below)))
-collected_in-grows n (Open p (Below b c) phase ∷ qs) ps = suffix_trans (noted-grows n (leading n p) ps) (collected_in-grows n qs (noted n (leading n p) ps))
+    suffix_trans (asked_grows n (phase_outline n (assumed n p Neg phase)) ps) (suffix_trans (noted_grows n (leading n p) below) (collected_in_grows n qs (noted n (leading n p) below)))
+collected_in_grows n (Open p (Below b c) phase ∷ qs) ps = suffix_trans (noted_grows n (leading n p) ps) (collected_in_grows n qs (noted n (leading n p) ps))
 
-pub collected-grows : (n : ℕ) (s : State) (ps : List Poly) → Suffix ps (collected_after n s ps)
-collected-grows n (Looking phase qs) ps =
-    let qs' = asked n (phase_outline n phase) ps in suffix_trans (asked-grows n (phase_outline n phase) ps) (collected_in-grows n qs qs')
-collected-grows n (Returning t qs) ps = collected_in-grows n qs ps
+pub collected_grows : (n : ℕ) (s : State) (ps : List Poly) → Suffix ps (collected_after n s ps)
+collected_grows n (Looking phase qs) ps =
+    let qs' = asked n (phase_outline n phase) ps in suffix_trans (asked_grows n (phase_outline n phase) ps) (collected_in_grows n qs qs')
+collected_grows n (Returning t qs) ps = collected_in_grows n qs ps
 
-pub suffix-longer : {ps qs : List Poly} → Suffix ps qs → length ps ≤ length qs
-suffix-longer {ps} {qs} h = let e : length qs ≡ length h.0 + length ps = ap length h.1 ∙ length-append h.0 ps in omega arith
+pub suffix_longer : {ps qs : List Poly} → Suffix ps qs → length ps ≤ length qs
+suffix_longer {ps} {qs} h = let e : length qs ≡ length h.0 + length ps = ap length h.1 ∙ length-append h.0 ps in omega arith

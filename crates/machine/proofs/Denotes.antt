@@ -12,7 +12,7 @@ use Rattle.sign_table.specs.Facts.{Fact, Known, Unknown, Is, known, ask_known}
 use Rattle.sign_table.specs.Leadings.{Left, Plain, headed, turned_round, leadings, reals, filled_all}
 use Rattle.sign_table.specs.Table.{real_table, table}
 use Rattle.machine.specs.Machine.{Frame, Settling, Above, At, Below, Question, Open, State, Looking, Returning, building, resume, looked_at, step, steps, start, enclosed, denote}
-use Rattle.machine.proofs.Settles.{begun-worth, settled-worth}
+use Rattle.machine.proofs.Settles.{begun_worth, settled_worth}
 
 module _ (leaf : List (List Sign) → Tree) (n : ℕ) where
   looked_at-denotes : (b : Bool) (k : Known) (p : Poly) (depth looks : ℕ) (ps : List Poly) (ls : List Left) (fs : List Fact) (frames : List Frame) (qs : List Question) →
@@ -32,10 +32,10 @@ module _ (leaf : List (List Sign) → Tree) (n : ℕ) where
   pub step_keeps : (s : State) → denote leaf n (step (building leaf) n s) ≡ denote leaf n s
   unfolding enclosed leadings
   step_keeps (Looking (Settling depth zero [] ls fs frames) qs) =
-      let all = turned_round ls [] in settled-worth leaf leaf n (denote leaf n) (enclosed leaf n) (λ phase qs. refl) (λ qs. refl) (λ frames rows qs. refl) depth (reals all) all fs frames qs
+      let all = turned_round ls [] in settled_worth leaf leaf n (denote leaf n) (enclosed leaf n) (λ phase qs. refl) (λ qs. refl) (λ frames rows qs. refl) depth (reals all) all fs frames qs
   step_keeps (Looking (Settling depth zero (p ∷ ps) ls fs frames) qs) = refl
   step_keeps (Looking (Settling depth (suc looks) [] ls fs frames) qs) =
-      let all = turned_round ls [] in settled-worth leaf leaf n (denote leaf n) (enclosed leaf n) (λ phase qs. refl) (λ qs. refl) (λ frames rows qs. refl) depth (reals all) all fs frames qs
+      let all = turned_round ls [] in settled_worth leaf leaf n (denote leaf n) (enclosed leaf n) (λ phase qs. refl) (λ qs. refl) (λ frames rows qs. refl) depth (reals all) all fs frames qs
   step_keeps (Looking (Settling depth (suc looks) (p ∷ ps) ls fs frames) qs) =
       looked_at-denotes (is_zero p) (known n (leading n p) fs) p depth looks ps ls fs frames qs
   step_keeps (Returning t []) = refl
@@ -43,15 +43,15 @@ module _ (leaf : List (List Sign) → Tree) (n : ℕ) where
   step_keeps (Returning t (Open p (At c) phase ∷ qs)) = refl
   step_keeps (Returning t (Open p (Below b c) phase ∷ qs)) = refl
 
-  pub start-denotes : (depth : ℕ) (ps : List Poly) → denote leaf n (start depth ps) ≡ table depth n ps [] (λ rows facts. leaf rows)
+  pub start_denotes : (depth : ℕ) (ps : List Poly) → denote leaf n (start depth ps) ≡ table depth n ps [] (λ rows facts. leaf rows)
   unfolding enclosed resume
-  start-denotes depth ps = begun-worth leaf leaf n (denote leaf n) (enclosed leaf n) (λ phase qs. refl) (λ qs. refl) (λ frames rows qs. refl) depth ps [] [] []
+  start_denotes depth ps = begun_worth leaf leaf n (denote leaf n) (enclosed leaf n) (λ phase qs. refl) (λ qs. refl) (λ frames rows qs. refl) depth ps [] [] []
 
-  pub finished-denotes : (t : Tree) → denote leaf n (Returning t []) ≡ t
+  pub finished_denotes : (t : Tree) → denote leaf n (Returning t []) ≡ t
   unfolding enclosed
-  finished-denotes t = refl
+  finished_denotes t = refl
 
-  pub steps-keep : (k : ℕ) (s : State) → denote leaf n (steps k (building leaf) n s) ≡ denote leaf n s
+  pub steps_keep : (k : ℕ) (s : State) → denote leaf n (steps k (building leaf) n s) ≡ denote leaf n s
   unfolding steps
-  steps-keep zero s = refl
-  steps-keep (suc k) s = steps-keep k (step (building leaf) n s) ∙ step_keeps s
+  steps_keep zero s = refl
+  steps_keep (suc k) s = steps_keep k (step (building leaf) n s) ∙ step_keeps s

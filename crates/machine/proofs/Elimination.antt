@@ -20,10 +20,10 @@ use Rattle.decision.proofs.RowAnswer.{nothing-over}
 use Rattle.machine.specs.Machine.{State, denote}
 use Rattle.machine.specs.Counts.{todo, collected_after}
 use Rattle.machine.specs.Theorems.{OnlyAnswers, elimination_start}
-use Rattle.machine.proofs.Denotes.{start-denotes}
+use Rattle.machine.proofs.Denotes.{start_denotes}
 use Rattle.machine.proofs.Outline.{numbers-ask-nothing}
-use Rattle.machine.proofs.Counting.{todo-start, collected-start}
-use Rattle.machine.proofs.Collected.{collected-grows, suffix-longer}
+use Rattle.machine.proofs.Counting.{todo_start, collected_start}
+use Rattle.machine.proofs.Collected.{collected_grows, suffix_longer}
 
 questions-nothing : (t : Tree) → AsksNothing t → questions t ≡ 0
 unfolding questions
@@ -32,27 +32,27 @@ questions-nothing No h = refl
 questions-nothing GivenUp h = refl
 questions-nothing (Ask p a b c) h = absurd h
 
-pub rows-answer : (all : Bool) (v : ℕ) (ps : List Poly) (t : Tree) → OnlyAnswers (over_rows all v ps t)
-rows-answer all v ps t rows = questions-nothing (over_rows all v ps t rows) (nothing-over v ps t all rows)
+pub rows_answer : (all : Bool) (v : ℕ) (ps : List Poly) (t : Tree) → OnlyAnswers (over_rows all v ps t)
+rows_answer all v ps t rows = questions-nothing (over_rows all v ps t rows) (nothing-over v ps t all rows)
 
 -- the elimination of a quantifier over what is given up
-given-up-eliminated : (n : ℕ) (all : Bool) → eliminated n all GivenUp ≡ GivenUp
+given_up_eliminated : (n : ℕ) (all : Bool) → eliminated n all GivenUp ≡ GivenUp
 unfolding eliminated asked table leadings turned_round reals some every on_row questions
-given-up-eliminated n true = refl
-given-up-eliminated n false = refl
+given_up_eliminated n true = refl
+given_up_eliminated n false = refl
 
-given-up-decided : (qs : List Bool) → decided qs GivenUp ≡ GivenUp
+given_up_decided : (qs : List Bool) → decided qs GivenUp ≡ GivenUp
 unfolding decided
-given-up-decided [] = refl
-given-up-decided (q ∷ qs) = ap (decided qs) (given-up-eliminated (length qs) q) ∙ given-up-decided qs
+given_up_decided [] = refl
+given_up_decided (q ∷ qs) = ap (decided qs) (given_up_eliminated (length qs) q) ∙ given_up_decided qs
 
-pub given-up-stays : (qs : List Bool) → plain (decided qs GivenUp) ≡ GivenUp
+pub given_up_stays : (qs : List Bool) → plain (decided qs GivenUp) ≡ GivenUp
 unfolding plain
-given-up-stays qs = ap plain (given-up-decided qs)
+given_up_stays qs = ap plain (given_up_decided qs)
 
-test-fails : (b : Bool) (t u : Tree) → (T b → ⊥) → ◌≡◌ {A = Tree} (elim b [ true ↦ t | false ↦ u ]) u
-test-fails true t u h = absurd (h tt)
-test-fails false t u h = refl
+test_fails : (b : Bool) (t u : Tree) → (T b → ⊥) → ◌≡◌ {A = Tree} (elim b [ true ↦ t | false ↦ u ]) u
+test_fails true t u h = absurd (h tt)
+test_fails false t u h = refl
 
 test-holds : (b : Bool) (t u : Tree) → T b → ◌≡◌ {A = Tree} (elim b [ true ↦ t | false ↦ u ]) t
 test-holds true t u h = refl
@@ -60,20 +60,20 @@ test-holds false t u h = absurd h
 
 too_many : (all : Bool) (n : ℕ) (t : Tree) → 12 < length (asked (suc n) t []) → eliminated n all t ≡ GivenUp
 unfolding eliminated
-too_many all n t h = test-fails (leb (length (asked (suc n) t [])) 12) _ GivenUp (λ b. let le = leb→le (length (asked (suc n) t [])) 12 b in absurd (omega arith))
+too_many all n t h = test_fails (leb (length (asked (suc n) t [])) 12) _ GivenUp (λ b. let le = leb→le (length (asked (suc n) t [])) 12 b in absurd (omega arith))
 
-pub thirteenth-asked : (q : Bool) (qs : List Bool) (t : Tree) → 12 < length (asked (suc (length qs)) t []) → plain (decided (q ∷ qs) t) ≡ GivenUp
+pub thirteenth_asked : (q : Bool) (qs : List Bool) (t : Tree) → 12 < length (asked (suc (length qs)) t []) → plain (decided (q ∷ qs) t) ≡ GivenUp
 unfolding decided
-thirteenth-asked q qs t h = ap (λ u. plain (decided qs u)) (too_many q (length qs) t h) ∙ given-up-stays qs
+thirteenth_asked q qs t h = ap (λ u. plain (decided qs u)) (too_many q (length qs) t h) ∙ given_up_stays qs
 
 -- the tree of the table that is made for a quantifier
 table_tree : ℕ → Bool → Tree → Tree
 table_tree n all t = table 40 n (asked (suc n) t []) [] (λ rows facts. over_rows all (suc n) (asked (suc n) t []) t rows)
 
 -- a quantifier is given up, or its table's tree is what is left
-eliminated-cases : (P : Tree → Type 0) (n : ℕ) (all : Bool) (t : Tree) → P GivenUp → (questions (table_tree n all t) < 3500 → P (table_tree n all t)) → P (eliminated n all t)
+eliminated_cases : (P : Tree → Type 0) (n : ℕ) (all : Bool) (t : Tree) → P GivenUp → (questions (table_tree n all t) < 3500 → P (table_tree n all t)) → P (eliminated n all t)
 unfolding eliminated table_tree
-eliminated-cases P n all t up tree =
+eliminated_cases P n all t up tree =
     on_test (leb (length (asked (suc n) t [])) 12) (λ b. P (elim b [ true ↦ limited u | false ↦ GivenUp ]))
     (λ _. on_test (ltb (questions u) 3500) (λ b. P (elim b [ true ↦ u | false ↦ GivenUp ])) (λ h. tree (ltb→lt (questions u) 3500 h)) (λ _. up))
     (λ _. up)
@@ -82,14 +82,14 @@ eliminated-cases P n all t up tree =
     u = table 40 n (asked (suc n) t []) [] (λ rows facts. over_rows all (suc n) (asked (suc n) t []) t rows)
 
 -- at the start all of the tree's questions are still to be asked
-todo-tree : (n : ℕ) (all : Bool) (t : Tree) → todo n (elimination_start n t) ≡ questions (table_tree n all t)
+todo_tree : (n : ℕ) (all : Bool) (t : Tree) → todo n (elimination_start n t) ≡ questions (table_tree n all t)
 unfolding table_tree
-todo-tree n all t = todo-start (over_rows all (suc n) (asked (suc n) t []) t) (rows-answer all (suc n) (asked (suc n) t []) t) 40 n (asked (suc n) t [])
+todo_tree n all t = todo_start (over_rows all (suc n) (asked (suc n) t []) t) (rows_answer all (suc n) (asked (suc n) t []) t) 40 n (asked (suc n) t [])
 
-pub many-questions : (n : ℕ) (all : Bool) (t : Tree) → 3500 ≤ todo n (elimination_start n t) → eliminated n all t ≡ GivenUp
-many-questions n all t h =
-    let e = todo-tree n all t in
-    eliminated-cases (λ u. u ≡ GivenUp) n all t refl (λ less. absurd (omega arith))
+pub many_questions : (n : ℕ) (all : Bool) (t : Tree) → 3500 ≤ todo n (elimination_start n t) → eliminated n all t ≡ GivenUp
+many_questions n all t h =
+    let e = todo_tree n all t in
+    eliminated_cases (λ u. u ≡ GivenUp) n all t refl (λ less. absurd (omega arith))
 
 asked-nothing : (v : ℕ) (t : Tree) (ps : List Poly) → questions t ≡ 0 → asked v t ps ≡ ps
 unfolding asked questions
@@ -103,47 +103,47 @@ last-asked : (all : Bool) (t : Tree) → asked 0 (table_tree 0 all t) [] ≡ []
 unfolding table_tree
 last-asked all t =
     asked-nothing 0 (table_tree 0 all t) []
-    (numbers-ask-nothing 40 (asked 1 t []) [] (λ rows facts. over_rows all 1 (asked 1 t []) t rows) (λ rows facts. rows-answer all 1 (asked 1 t []) t rows))
+    (numbers-ask-nothing 40 (asked 1 t []) [] (λ rows facts. over_rows all 1 (asked 1 t []) t rows) (λ rows facts. rows_answer all 1 (asked 1 t []) t rows))
 
 -- what was collected is among what the table asks about
-collected-asked : (n : ℕ) (all : Bool) (t : Tree) (s : State) (seen : List Poly) → collected_after n s seen ≡ collected_after n (elimination_start n t) [] →
+collected_asked : (n : ℕ) (all : Bool) (t : Tree) (s : State) (seen : List Poly) → collected_after n s seen ≡ collected_after n (elimination_start n t) [] →
     length seen ≤ length (asked n (table_tree n all t) [])
 unfolding table_tree
-collected-asked n all t s seen e =
+collected_asked n all t s seen e =
     let c : collected_after n s seen ≡ asked n (table_tree n all t) [] =
-    e ∙ collected-start (over_rows all (suc n) (asked (suc n) t []) t) (rows-answer all (suc n) (asked (suc n) t []) t) 40 n (asked (suc n) t []) in
+    e ∙ collected_start (over_rows all (suc n) (asked (suc n) t []) t) (rows_answer all (suc n) (asked (suc n) t []) t) 40 n (asked (suc n) t []) in
     let l = ap length c in
-    let h = suffix-longer (collected-grows n s seen) in
+    let h = suffix_longer (collected_grows n s seen) in
     omega arith
 
-given-up-next : (q : Bool) (qs : List Bool) (t : Tree) → 12 < length (asked (length qs) (table_tree (length qs) q t) []) → plain (decided qs (table_tree (length qs) q t)) ≡ GivenUp
-given-up-next q [] t h = let e = ap length (last-asked q t) in absurd (omega arith)
-given-up-next q (r ∷ qs) t h = thirteenth-asked r qs (table_tree (suc (length qs)) q t) h
+given_up_next : (q : Bool) (qs : List Bool) (t : Tree) → 12 < length (asked (length qs) (table_tree (length qs) q t) []) → plain (decided qs (table_tree (length qs) q t)) ≡ GivenUp
+given_up_next q [] t h = let e = ap length (last-asked q t) in absurd (omega arith)
+given_up_next q (r ∷ qs) t h = thirteenth_asked r qs (table_tree (suc (length qs)) q t) h
 
-pub thirteenth-collected : (q : Bool) (qs : List Bool) (t : Tree) (s : State) (seen : List Poly) →
+pub thirteenth_collected : (q : Bool) (qs : List Bool) (t : Tree) (s : State) (seen : List Poly) →
     collected_after (length qs) s seen ≡ collected_after (length qs) (elimination_start (length qs) t) [] → 12 < length seen → plain (decided (q ∷ qs) t) ≡ GivenUp
 unfolding decided
-thirteenth-collected q qs t s seen e h =
-    let k = collected-asked (length qs) q t s seen e in
-    eliminated-cases (λ u. plain (decided qs u) ≡ GivenUp) (length qs) q t (given-up-stays qs) (λ less. given-up-next q qs t (omega arith))
+thirteenth_collected q qs t s seen e h =
+    let k = collected_asked (length qs) q t s seen e in
+    eliminated_cases (λ u. plain (decided qs u) ≡ GivenUp) (length qs) q t (given_up_stays qs) (λ less. given_up_next q qs t (omega arith))
 
-eliminated-tree : (n : ℕ) (all : Bool) (t : Tree) → length (asked (suc n) t []) ≤ 12 → todo n (elimination_start n t) < 3500 → eliminated n all t ≡ table_tree n all t
+eliminated_tree : (n : ℕ) (all : Bool) (t : Tree) → length (asked (suc n) t []) ≤ 12 → todo n (elimination_start n t) < 3500 → eliminated n all t ≡ table_tree n all t
 unfolding eliminated table_tree
-eliminated-tree n all t few h =
-    let e = todo-tree n all t in
+eliminated_tree n all t few h =
+    let e = todo_tree n all t in
     let less : questions (table_tree n all t) < 3500 = omega arith in
     test-holds (leb (length (asked (suc n) t [])) 12) (limited (table_tree n all t)) GivenUp (le→leb (length (asked (suc n) t [])) 12 few)
     ∙ test-holds (ltb (questions (table_tree n all t)) 3500) (table_tree n all t) GivenUp (lt→ltb (questions (table_tree n all t)) 3500 less)
 
-pub few-questions : (n : ℕ) (all : Bool) (t : Tree) → length (asked (suc n) t []) ≤ 12 → todo n (elimination_start n t) < 3500 →
+pub few_questions : (n : ℕ) (all : Bool) (t : Tree) → length (asked (suc n) t []) ≤ 12 → todo n (elimination_start n t) < 3500 →
     denote (over_rows all (suc n) (asked (suc n) t []) t) n (elimination_start n t) ≡ eliminated n all t
 unfolding table_tree
-few-questions n all t few h =
-    start-denotes (over_rows all (suc n) (asked (suc n) t []) t) n 40 (asked (suc n) t []) ∙ sym (eliminated-tree n all t few h)
+few_questions n all t few h =
+    start_denotes (over_rows all (suc n) (asked (suc n) t []) t) n 40 (asked (suc n) t []) ∙ sym (eliminated_tree n all t few h)
 
-pub collected-next : (n : ℕ) (all : Bool) (t : Tree) → length (asked (suc n) t []) ≤ 12 → todo n (elimination_start n t) < 3500 →
+pub collected_next : (n : ℕ) (all : Bool) (t : Tree) → length (asked (suc n) t []) ≤ 12 → todo n (elimination_start n t) < 3500 →
     collected_after n (elimination_start n t) [] ≡ asked n (eliminated n all t) []
 unfolding table_tree
-collected-next n all t few h =
-    collected-start (over_rows all (suc n) (asked (suc n) t []) t) (rows-answer all (suc n) (asked (suc n) t []) t) 40 n (asked (suc n) t [])
-    ∙ ap (λ u. asked n u []) (sym (eliminated-tree n all t few h))
+collected_next n all t few h =
+    collected_start (over_rows all (suc n) (asked (suc n) t []) t) (rows_answer all (suc n) (asked (suc n) t []) t) 40 n (asked (suc n) t [])
+    ∙ ap (λ u. asked n u []) (sym (eliminated_tree n all t few h))

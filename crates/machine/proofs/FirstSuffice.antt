@@ -12,21 +12,21 @@ use Rattle.sign_table.specs.Tree.{Tree}
 use Rattle.sign_table.specs.Facts.{Fact, ask}
 use Rattle.sign_table.specs.Leadings.{Left, Plain, left_of, headed, leadings}
 use Rattle.machine.specs.Theorems.{FirstSuffice}
-use Rattle.machine.proofs.Related.{related-test}
+use Rattle.machine.proofs.Related.{related_test}
 
-taken-suffice : (n : ℕ) (k : List Left → List Fact → Tree) (looks m : ℕ) → looks < m → (ps : List Poly) (ls : List Left) (fs : List Fact) →
+taken_suffice : (n : ℕ) (k : List Left → List Fact → Tree) (looks m : ℕ) → looks < m → (ps : List Poly) (ls : List Left) (fs : List Fact) →
     leadings looks n (take m ps) ls fs k ≡ leadings looks n ps ls fs k
 unfolding leadings
-taken-suffice n k zero zero h ps ls fs = absurd (omega arith)
-taken-suffice n k (suc looks) zero h ps ls fs = absurd (omega arith)
-taken-suffice n k zero (suc m) h [] ls fs = refl
-taken-suffice n k zero (suc m) h (p ∷ ps) ls fs = refl
-taken-suffice n k (suc looks) (suc m) h [] ls fs = refl
-taken-suffice n k (suc looks) (suc m) h (p ∷ ps) ls fs =
+taken_suffice n k zero zero h ps ls fs = absurd (omega arith)
+taken_suffice n k (suc looks) zero h ps ls fs = absurd (omega arith)
+taken_suffice n k zero (suc m) h [] ls fs = refl
+taken_suffice n k zero (suc m) h (p ∷ ps) ls fs = refl
+taken_suffice n k (suc looks) (suc m) h [] ls fs = refl
+taken_suffice n k (suc looks) (suc m) h (p ∷ ps) ls fs =
     let less : looks < m = omega arith in
     let less' : looks < suc m = omega arith in
-    related-test (λ t u. t ≡ u) (is_zero p) _ _ _ _ (taken-suffice n k looks m less ps (Plain Zero ∷ ls) fs)
-    (ap (ask n (leading n p) fs) (λ i s gs. by_sign s gs (λ qs ms. taken-suffice n k looks m less qs ms gs) (λ qs ms. taken-suffice n k looks (suc m) less' qs ms gs) i))
+    related_test (λ t u. t ≡ u) (is_zero p) _ _ _ _ (taken_suffice n k looks m less ps (Plain Zero ∷ ls) fs)
+    (ap (ask n (leading n p) fs) (λ i s gs. by_sign s gs (λ qs ms. taken_suffice n k looks m less qs ms gs) (λ qs ms. taken_suffice n k looks (suc m) less' qs ms gs) i))
   where
     by_sign : (s : Sign) (gs : List Fact) → ((qs : List Poly) (ms : List Left) → leadings looks n (take m qs) ms gs k ≡ leadings looks n qs ms gs k) →
         ((qs : List Poly) (ms : List Left) → leadings looks n (take (suc m) qs) ms gs k ≡ leadings looks n qs ms gs k) →
@@ -35,5 +35,5 @@ taken-suffice n k (suc looks) (suc m) h (p ∷ ps) ls fs =
     by_sign Zero gs rec more = more (without_leading p ∷ ps) ls
     by_sign Pos gs rec more = rec ps (left_of p Pos ∷ ls)
 
-pub first-suffice : FirstSuffice
-first-suffice looks n ps ls fs k = taken-suffice n k looks (looks + 1) (omega arith) ps ls fs
+pub first_suffice : FirstSuffice
+first_suffice looks n ps ls fs k = taken_suffice n k looks (looks + 1) (omega arith) ps ls fs

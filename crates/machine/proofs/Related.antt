@@ -16,9 +16,9 @@ use Rattle.sign_table.specs.Table.{Continuation, poly_of, leading_sign, polys, h
 use Rattle.machine.specs.Machine.{Frame, Waiting, Phase, Settling, resume, phase_tree}
 
 module _ (Related : Tree → Tree → Type 0) where
-  pub related-test : (b : Bool) (t u v w : Tree) → Related t v → Related u w → Related (elim b [ true ↦ t | false ↦ u ]) (elim b [ true ↦ v | false ↦ w ])
-  related-test true t u v w h k = h
-  related-test false t u v w h k = k
+  pub related_test : (b : Bool) (t u v w : Tree) → Related t v → Related u w → Related (elim b [ true ↦ t | false ↦ u ]) (elim b [ true ↦ v | false ↦ w ])
+  related_test true t u v w h k = h
+  related_test false t u v w h k = k
 
 -- questions about n variables keep the relation
 abbrev pub AskKeeps : (Tree → Tree → Type 0) → ℕ → Type 0
@@ -30,16 +30,16 @@ abbrev pub RelatedRows : (Tree → Tree → Type 0) → Continuation → Continu
 RelatedRows Related k o = (m : List (List Sign)) (gs : List Fact) → Related (k m gs) (o m gs)
 
 module _ (Related : Tree → Tree → Type 0) (n : ℕ) (given-up : Related GivenUp GivenUp) (ask-keeps : AskKeeps Related n) where
-  related-leadings : (k o : List Left → List Fact → Tree) → ((ls : List Left) (gs : List Fact) → Related (k ls gs) (o ls gs)) →
+  related_leadings : (k o : List Left → List Fact → Tree) → ((ls : List Left) (gs : List Fact) → Related (k ls gs) (o ls gs)) →
       (looks : ℕ) (ps : List Poly) (ls : List Left) (fs : List Fact) → Related (leadings looks n ps ls fs k) (leadings looks n ps ls fs o)
   unfolding leadings
-  related-leadings k o h zero [] ls fs = h (turned_round ls []) fs
-  related-leadings k o h zero (p ∷ ps) ls fs = given-up
-  related-leadings k o h (suc looks) [] ls fs = h (turned_round ls []) fs
-  related-leadings k o h (suc looks) (p ∷ ps) ls fs =
-      related-test Related (is_zero p) _ _ _ _ (related-leadings k o h looks ps (Plain Zero ∷ ls) fs)
+  related_leadings k o h zero [] ls fs = h (turned_round ls []) fs
+  related_leadings k o h zero (p ∷ ps) ls fs = given-up
+  related_leadings k o h (suc looks) [] ls fs = h (turned_round ls []) fs
+  related_leadings k o h (suc looks) (p ∷ ps) ls fs =
+      related_test Related (is_zero p) _ _ _ _ (related_leadings k o h looks ps (Plain Zero ∷ ls) fs)
       (ask-keeps (leading n p) fs (λ s gs. headed p s ps ls (λ qs ms. leadings looks n qs ms gs k)) (λ s gs. headed p s ps ls (λ qs ms. leadings looks n qs ms gs o))
-      (λ s gs. by_sign s gs (λ qs ms. related-leadings k o h looks qs ms gs)))
+      (λ s gs. by_sign s gs (λ qs ms. related_leadings k o h looks qs ms gs)))
     where
       by_sign : (s : Sign) (gs : List Fact) → ((qs : List Poly) (ms : List Left) → Related (leadings looks n qs ms gs k) (leadings looks n qs ms gs o)) →
           Related (headed p s ps ls (λ qs ms. leadings looks n qs ms gs k)) (headed p s ps ls (λ qs ms. leadings looks n qs ms gs o))
@@ -50,39 +50,39 @@ module _ (Related : Tree → Tree → Type 0) (n : ℕ) (given-up : Related Give
   module _ (go : List Poly → List Fact → Continuation → Tree)
       (go-related : (ps : List Poly) (fs : List Fact) (k o : Continuation) → RelatedRows Related k o → Related (go ps fs k) (go ps fs o))
       (k o : Continuation) (h : RelatedRows Related k o) where
-    related-real_of : (i : ℕ) (l : Left) (ls : List Left) (fs : List Fact) → Related (real_of go n i l ls fs k) (real_of go n i l ls fs o)
-    related-real_of i l ls fs =
+    related_real_of : (i : ℕ) (l : Left) (ls : List Left) (fs : List Fact) → Related (real_of go n i l ls fs k) (real_of go n i l ls fs o)
+    related_real_of i l ls fs =
         let d = derivative n (poly_of l) in
         let ds = Real d (leading_sign l) ∷ ls in
         let rs = remainders n (poly_of l) ds in
-        related-test Related (modest (suc n) d && all_fine rs) _ _ _ _
+        related_test Related (modest (suc n) d && all_fine rs) _ _ _ _
         (go-related (polys ds ++ fine_ones rs) (record { poly = leading n d; sign = leading_sign l } ∷ fs) _ _
-        (λ m gs. related-test Related (all_known (deduced (length ds) m)) _ _ _ _ (h (inserted i (deduced (length ds) m)) gs) given-up))
+        (λ m gs. related_test Related (all_known (deduced (length ds) m)) _ _ _ _ (h (inserted i (deduced (length ds) m)) gs) given-up))
         given-up
 
-    related-real_table : (ls : List Left) (fs : List Fact) → Related (real_table go n ls fs k) (real_table go n ls fs o)
-    related-real_table [] fs = h ([] ∷ []) fs
-    related-real_table (l ∷ ls) fs =
-        let i = highest 1 0 (degree (poly_of l)) ls in related-real_of i (get_or (l ∷ ls) i none_left) (without i (l ∷ ls)) fs
+    related_real_table : (ls : List Left) (fs : List Fact) → Related (real_table go n ls fs k) (real_table go n ls fs o)
+    related_real_table [] fs = h ([] ∷ []) fs
+    related_real_table (l ∷ ls) fs =
+        let i = highest 1 0 (degree (poly_of l)) ls in related_real_of i (get_or (l ∷ ls) i none_left) (without i (l ∷ ls)) fs
 
-  pub related-table : (depth : ℕ) (ps : List Poly) (fs : List Fact) (k o : Continuation) → RelatedRows Related k o → Related (table depth n ps fs k) (table depth n ps fs o)
+  pub related_table : (depth : ℕ) (ps : List Poly) (fs : List Fact) (k o : Continuation) → RelatedRows Related k o → Related (table depth n ps fs k) (table depth n ps fs o)
   unfolding table
-  related-table zero ps fs k o h = given-up
-  related-table (suc depth) ps fs k o h =
-      related-leadings _ _
-      (λ ls gs. related-real_table (table depth n) (related-table depth) (λ m hs. k (filled_all ls m) hs) (λ m hs. o (filled_all ls m) hs) (λ m hs. h (filled_all ls m) hs) (reals ls) gs)
+  related_table zero ps fs k o h = given-up
+  related_table (suc depth) ps fs k o h =
+      related_leadings _ _
+      (λ ls gs. related_real_table (table depth n) (related_table depth) (λ m hs. k (filled_all ls m) hs) (λ m hs. o (filled_all ls m) hs) (λ m hs. h (filled_all ls m) hs) (reals ls) gs)
       63 ps [] fs
 
   module _ (leaf other : List (List Sign) → Tree) (at-leaves : (rows : List (List Sign)) → Related (leaf rows) (other rows)) where
-    related-resume : (frames : List Frame) (rows : List (List Sign)) → Related (resume leaf frames rows) (resume other frames rows)
+    related_resume : (frames : List Frame) (rows : List (List Sign)) → Related (resume leaf frames rows) (resume other frames rows)
     unfolding resume
-    related-resume [] rows = at-leaves rows
-    related-resume (Waiting ls i l ∷ frames) rows =
-        related-test Related (all_known (deduced l rows)) _ _ _ _ (related-resume frames (filled_all ls (inserted i (deduced l rows)))) given-up
+    related_resume [] rows = at-leaves rows
+    related_resume (Waiting ls i l ∷ frames) rows =
+        related_test Related (all_known (deduced l rows)) _ _ _ _ (related_resume frames (filled_all ls (inserted i (deduced l rows)))) given-up
 
-    pub related-phase : (phase : Phase) → Related (phase_tree leaf n phase) (phase_tree other n phase)
-    related-phase (Settling depth looks ps ls fs frames) =
-        related-leadings _ _
-        (λ ms gs. related-real_table (table depth n) (related-table depth) (λ m hs. resume leaf frames (filled_all ms m)) (λ m hs. resume other frames (filled_all ms m))
-        (λ m hs. related-resume frames (filled_all ms m)) (reals ms) gs)
+    pub related_phase : (phase : Phase) → Related (phase_tree leaf n phase) (phase_tree other n phase)
+    related_phase (Settling depth looks ps ls fs frames) =
+        related_leadings _ _
+        (λ ms gs. related_real_table (table depth n) (related_table depth) (λ m hs. resume leaf frames (filled_all ms m)) (λ m hs. resume other frames (filled_all ms m))
+        (λ m hs. related_resume frames (filled_all ms m)) (reals ms) gs)
         looks ps ls fs

@@ -17,7 +17,7 @@ use Rattle.sign_table.specs.Table.{without, none_left}
 use Rattle.machine.specs.Machine.{Waiting, Phase, Settling, Branch, Above, At, Below, Question, Open, State, Looking, Returning, Run, resume, with_sign, with_fact, assumed, with_zero, begun, divisors, divisible, polys_below, fact_below, highest_place, settled, looked_at, step, start}
 use Rattle.machine.specs.Stacks.{Marks, Marked, Kept, QuestionCell, Pending, Memory, back, forth, less_one, deepest, lefts_back, polys_forth, frame_of, frames_of, ahead_of, phase_of, rest_of, current_of, marks_of, question_of, questions_of, Stacks, Facing, Holding, state_of, passed, shortened, signed, with_one_fact, entered, lefts_end, facts_end, frames_end, looks_left, ahead_count, base_of, done_count, frame_end, Agree, Before, Fits, Asking, Ordered, Sound, Untouched, LeftWritten}
 use Rattle.machine.specs.Theorems.{all_lefts}
-use Rattle.machine.proofs.Agree.{frames-agree, lefts-agree, facts-agree, rest-agrees, fits-agrees, questions-agree, ordered-agrees, ordered-before}
+use Rattle.machine.proofs.Agree.{frames_agree, lefts_agree, facts_agree, rest_agrees, fits_agrees, questions_agree, ordered_agrees, ordered_before}
 
 -- the arrays stand for the next state, and stay sound
 abbrev pub Mirrors : Run → ℕ → Memory → Stacks → Memory → Stacks → Type 0
@@ -32,22 +32,22 @@ ahead-forth mem base i (suc ahead) p h = ap (λ q. q ∷ polys_forth mem base (s
 abbrev with_left : Left → Phase → Phase
 with_left l (Settling depth looks ps ls fs frames) = Settling depth looks ps (l ∷ ls) fs frames
 
-passed-phase : (mem : Memory) (m : Marks) (p : Poly) (l : Left) → mem.left_at (lefts_end m) ≡ l → Untouched mem (passed p m) → phase_of mem (passed p m) ≡ with_left l (rest_of mem m)
+passed_phase : (mem : Memory) (m : Marks) (p : Poly) (l : Left) → mem.left_at (lefts_end m) ≡ l → Untouched mem (passed p m) → phase_of mem (passed p m) ≡ with_left l (rest_of mem m)
 unfolding back
-passed-phase mem (Marked looks base done ahead current facts frames) p l e h =
+passed_phase mem (Marked looks base done ahead current facts frames) p l e h =
     λ i. Settling (deepest - frames) (less_one looks) (ahead-forth mem base (suc done) (less_one ahead) p h i) (e i ∷ lefts_back mem base done) (back mem.fact_at facts) (frames_of mem frames)
 
-signed-phase : (mem : Memory) (m : Marks) (p : Poly) (s : Sign) → 0 < ahead_count m → LeftWritten mem m s p → phase_of mem (signed p s m) ≡ with_sign (current_of m) s (rest_of mem m)
-signed-phase mem (Marked looks base done ahead current facts frames) p Neg some e = passed-phase mem (Marked looks base done ahead current facts frames) p _ e.0 e.1
-signed-phase mem (Marked looks base done zero current facts frames) p Zero some e = absurd (omega arith)
-signed-phase mem (Marked looks base done (suc ahead) current facts frames) p Zero some e = refl
-signed-phase mem (Marked looks base done ahead current facts frames) p Pos some e = passed-phase mem (Marked looks base done ahead current facts frames) p _ e.0 e.1
+signed_phase : (mem : Memory) (m : Marks) (p : Poly) (s : Sign) → 0 < ahead_count m → LeftWritten mem m s p → phase_of mem (signed p s m) ≡ with_sign (current_of m) s (rest_of mem m)
+signed_phase mem (Marked looks base done ahead current facts frames) p Neg some e = passed_phase mem (Marked looks base done ahead current facts frames) p _ e.0 e.1
+signed_phase mem (Marked looks base done zero current facts frames) p Zero some e = absurd (omega arith)
+signed_phase mem (Marked looks base done (suc ahead) current facts frames) p Zero some e = refl
+signed_phase mem (Marked looks base done ahead current facts frames) p Pos some e = passed_phase mem (Marked looks base done ahead current facts frames) p _ e.0 e.1
 
-assumed-phase : (n : ℕ) (mem : Memory) (m : Marks) (p : Poly) (s : Sign) → 0 < ahead_count m → LeftWritten mem m s p →
+assumed_phase : (n : ℕ) (mem : Memory) (m : Marks) (p : Poly) (s : Sign) → 0 < ahead_count m → LeftWritten mem m s p →
     mem.fact_at (facts_end m) ≡ record { poly = leading n (current_of m); sign = s } → phase_of mem (signed p s (with_one_fact m)) ≡ assumed n (current_of m) s (rest_of mem m)
 unfolding back
-assumed-phase n mem (Marked looks base done ahead current facts frames) p s some l e =
-    signed-phase mem (Marked looks base done ahead current (suc facts) frames) p s some (written s l) ∙ ap (λ f. with_sign current s (with_fact f (rest_of mem (Marked looks base done ahead current facts frames)))) e
+assumed_phase n mem (Marked looks base done ahead current facts frames) p s some l e =
+    signed_phase mem (Marked looks base done ahead current (suc facts) frames) p s some (written s l) ∙ ap (λ f. with_sign current s (with_fact f (rest_of mem (Marked looks base done ahead current facts frames)))) e
   where
     written : (s : Sign) → LeftWritten mem (Marked looks base done ahead current facts frames) s p → LeftWritten mem (Marked looks base done ahead current (suc facts) frames) s p
     written Neg l = l
@@ -58,23 +58,23 @@ assumed-phase n mem (Marked looks base done ahead current facts frames) p s some
 passed-fits : (mem : Memory) (looks base done ahead : ℕ) (p q : Poly) (facts frames k : ℕ) → Fits mem (Marked (suc looks) base done (suc ahead) p facts frames) k →
     Fits mem (Marked looks base (suc done) ahead q facts frames) k
 passed-fits mem looks base done ahead p q facts frames k fits = record {
-  looks-bound = let h = fits.looks-bound in omega arith;
-  size-bound = let h = fits.size-bound in omega arith;
-  base-bound = fits.base-bound;
-  depth-bound = fits.depth-bound;
-  facts-count = fits.facts-count;
-  frames-below = fits.frames-below;
+  looks_bound = let h = fits.looks_bound in omega arith;
+  size_bound = let h = fits.size_bound in omega arith;
+  base_bound = fits.base_bound;
+  depth_bound = fits.depth_bound;
+  facts_count = fits.facts_count;
+  frames_below = fits.frames_below;
 }
 
 shortened-fits : (mem : Memory) (looks base done ahead : ℕ) (p q : Poly) (facts frames k : ℕ) → Fits mem (Marked (suc looks) base done ahead p facts frames) k →
     Fits mem (Marked looks base done ahead q facts frames) k
 shortened-fits mem looks base done ahead p q facts frames k fits = record {
-  looks-bound = let h = fits.looks-bound in omega arith;
-  size-bound = fits.size-bound;
-  base-bound = fits.base-bound;
-  depth-bound = fits.depth-bound;
-  facts-count = fits.facts-count;
-  frames-below = fits.frames-below;
+  looks_bound = let h = fits.looks_bound in omega arith;
+  size_bound = fits.size_bound;
+  base_bound = fits.base_bound;
+  depth_bound = fits.depth_bound;
+  facts_count = fits.facts_count;
+  frames_below = fits.frames_below;
 }
 
 signed-fits : (mem : Memory) (m : Marks) (q : Poly) (s : Sign) (k : ℕ) → 0 < looks_left m → 0 < ahead_count m → Fits mem m k → Fits mem (signed q s m) k
@@ -86,25 +86,25 @@ signed-fits mem (Marked (suc looks) base done (suc ahead) p facts frames) q Pos 
 
 one-fact-fits : (mem : Memory) (m : Marks) (k : ℕ) → Fits mem m k → Fits mem (with_one_fact m) (suc k)
 one-fact-fits mem (Marked looks base done ahead p facts frames) k fits = record {
-  looks-bound = fits.looks-bound;
-  size-bound = fits.size-bound;
-  base-bound = fits.base-bound;
-  depth-bound = fits.depth-bound;
-  facts-count = let e = fits.facts-count in omega arith;
-  frames-below = fits.frames-below;
+  looks_bound = fits.looks_bound;
+  size_bound = fits.size_bound;
+  base_bound = fits.base_bound;
+  depth_bound = fits.depth_bound;
+  facts_count = let e = fits.facts_count in omega arith;
+  frames_below = fits.frames_below;
 }
 
-signed-after : (m : Marks) (q : Poly) (s : Sign) → 0 < ahead_count m → Before m (signed q s m)
-signed-after (Marked looks base done zero p facts frames) q s some = absurd (omega arith)
-signed-after (Marked looks base done (suc ahead) p facts frames) q Neg some = record { polys = omega arith; lefts = omega arith; facts = omega arith; frames = omega arith }
-signed-after (Marked looks base done (suc ahead) p facts frames) q Zero some = record { polys = omega arith; lefts = omega arith; facts = omega arith; frames = omega arith }
-signed-after (Marked looks base done (suc ahead) p facts frames) q Pos some = record { polys = omega arith; lefts = omega arith; facts = omega arith; frames = omega arith }
+signed_after : (m : Marks) (q : Poly) (s : Sign) → 0 < ahead_count m → Before m (signed q s m)
+signed_after (Marked looks base done zero p facts frames) q s some = absurd (omega arith)
+signed_after (Marked looks base done (suc ahead) p facts frames) q Neg some = record { polys = omega arith; lefts = omega arith; facts = omega arith; frames = omega arith }
+signed_after (Marked looks base done (suc ahead) p facts frames) q Zero some = record { polys = omega arith; lefts = omega arith; facts = omega arith; frames = omega arith }
+signed_after (Marked looks base done (suc ahead) p facts frames) q Pos some = record { polys = omega arith; lefts = omega arith; facts = omega arith; frames = omega arith }
 
-assumed-after : (m : Marks) (q : Poly) (s : Sign) → 0 < ahead_count m → Before m (signed q s (with_one_fact m))
-assumed-after (Marked looks base done zero p facts frames) q s some = absurd (omega arith)
-assumed-after (Marked looks base done (suc ahead) p facts frames) q Neg some = record { polys = omega arith; lefts = omega arith; facts = omega arith; frames = omega arith }
-assumed-after (Marked looks base done (suc ahead) p facts frames) q Zero some = record { polys = omega arith; lefts = omega arith; facts = omega arith; frames = omega arith }
-assumed-after (Marked looks base done (suc ahead) p facts frames) q Pos some = record { polys = omega arith; lefts = omega arith; facts = omega arith; frames = omega arith }
+assumed_after : (m : Marks) (q : Poly) (s : Sign) → 0 < ahead_count m → Before m (signed q s (with_one_fact m))
+assumed_after (Marked looks base done zero p facts frames) q s some = absurd (omega arith)
+assumed_after (Marked looks base done (suc ahead) p facts frames) q Neg some = record { polys = omega arith; lefts = omega arith; facts = omega arith; frames = omega arith }
+assumed_after (Marked looks base done (suc ahead) p facts frames) q Zero some = record { polys = omega arith; lefts = omega arith; facts = omega arith; frames = omega arith }
+assumed_after (Marked looks base done (suc ahead) p facts frames) q Pos some = record { polys = omega arith; lefts = omega arith; facts = omega arith; frames = omega arith }
 
 -- a question was asked or goes on: its marks come before the next
 assumed-sound : (mem : Memory) (m : Marks) (q : Poly) (s : Sign) (k : ℕ) (c : QuestionCell) → marks_of c ≡ m → mem.question_at k ≡ c → Asking mem m k → Ordered mem m k →
@@ -112,7 +112,7 @@ assumed-sound : (mem : Memory) (m : Marks) (q : Poly) (s : Sign) (k : ℕ) (c : 
 unfolding Ordered
 assumed-sound mem m q s k c marks written asking ordered = (
   signed-fits mem (with_one_fact m) q s (suc k) (one-look m asking.looks) (one-ahead m asking.ahead) (one-fact-fits mem m k asking.fits),
-  subst (λ o. Before o (signed q s (with_one_fact m)) × Asking mem o k × Ordered mem o k) (sym (ap marks_of written ∙ marks)) (assumed-after m q s asking.ahead, asking, ordered),
+  subst (λ o. Before o (signed q s (with_one_fact m)) × Asking mem o k × Ordered mem o k) (sym (ap marks_of written ∙ marks)) (assumed_after m q s asking.ahead, asking, ordered),
 )
   where
     one-look : (m : Marks) → 0 < looks_left m → 0 < looks_left (with_one_fact m)
@@ -130,63 +130,63 @@ facing-step run n mem (Marked (suc looks) base done (suc ahead) p facts frames) 
 
 module _ (run : Run) (n : ℕ) (mem new : Memory) (m : Marks) (k : ℕ) (sound : Sound mem (Facing m k)) (agree : Agree mem new m k) (look : 0 < looks_left m) (some : 0 < ahead_count m) where
   rest-same : rest_of new m ≡ rest_of mem m
-  rest-same = rest-agrees mem new m k k some sound.0 agree
+  rest-same = rest_agrees mem new m k k some sound.0 agree
 
   questions-same : questions_of new k ≡ questions_of mem k
-  questions-same = questions-agree mem new m k sound.1 agree
+  questions-same = questions_agree mem new m k sound.1 agree
 
-  fits-still : Fits new m k
-  fits-still = fits-agrees mem new m k k sound.0 agree
+  fits_still : Fits new m k
+  fits_still = fits_agrees mem new m k k sound.0 agree
 
-  ordered-still : Ordered new m k
-  ordered-still = ordered-agrees mem new m k sound.1 agree
+  ordered_still : Ordered new m k
+  ordered_still = ordered_agrees mem new m k sound.1 agree
 
-  pub passes-zero : is_zero (current_of m) ≡ true → new.left_at (lefts_end m) ≡ Plain Zero → (p : Poly) → Untouched new (passed p m) → Mirrors run n mem (Facing m k) new (Facing (passed p m) k)
-  passes-zero zero-poly left p untouched =
-      let e : phase_of new (passed p m) ≡ with_zero (rest_of mem m) = passed-phase new m p (Plain Zero) left untouched ∙ ap with_zero rest-same in
+  pub passes_zero : is_zero (current_of m) ≡ true → new.left_at (lefts_end m) ≡ Plain Zero → (p : Poly) → Untouched new (passed p m) → Mirrors run n mem (Facing m k) new (Facing (passed p m) k)
+  passes_zero zero-poly left p untouched =
+      let e : phase_of new (passed p m) ≡ with_zero (rest_of mem m) = passed_phase new m p (Plain Zero) left untouched ∙ ap with_zero rest-same in
       let looks : looked_at n (is_zero (current_of m)) (known n (leading n (current_of m)) (back mem.fact_at (facts_end m))) (current_of m) (rest_of mem m) (questions_of mem k) ≡
       Looking (with_zero (rest_of mem m)) (questions_of mem k) =
       ap (λ b. looked_at n b (known n (leading n (current_of m)) (back mem.fact_at (facts_end m))) (current_of m) (rest_of mem m) (questions_of mem k)) zero-poly in (
         ap₂ Looking e questions-same ∙ (sym looks ∙ sym (facing-step run n mem m k look some)),
-        (signed-fits new m p Neg k look some fits-still, ordered-before new m (passed p m) k (signed-after m p Neg some) ordered-still),
+        (signed-fits new m p Neg k look some fits_still, ordered_before new m (passed p m) k (signed_after m p Neg some) ordered_still),
       )
 
   -- what is looked at, when the current polynomial isn't zero and this is known of its leading coefficient
-  looking-at : (b : Known) → is_zero (current_of m) ≡ false → known n (leading n (current_of m)) (back mem.fact_at (facts_end m)) ≡ b →
+  looking_at : (b : Known) → is_zero (current_of m) ≡ false → known n (leading n (current_of m)) (back mem.fact_at (facts_end m)) ≡ b →
       step run n (state_of mem (Facing m k)) ≡ looked_at n false b (current_of m) (rest_of mem m) (questions_of mem k)
-  looking-at b not-zero e = facing-step run n mem m k look some ∙ ap₂ (λ z c. looked_at n z c (current_of m) (rest_of mem m) (questions_of mem k)) not-zero e
+  looking_at b not_zero e = facing-step run n mem m k look some ∙ ap₂ (λ z c. looked_at n z c (current_of m) (rest_of mem m) (questions_of mem k)) not_zero e
 
-  pub passes-known : is_zero (current_of m) ≡ false → (s : Sign) → known n (leading n (current_of m)) (back mem.fact_at (facts_end m)) ≡ Is s → (p : Poly) → LeftWritten new m s p →
+  pub passes_known : is_zero (current_of m) ≡ false → (s : Sign) → known n (leading n (current_of m)) (back mem.fact_at (facts_end m)) ≡ Is s → (p : Poly) → LeftWritten new m s p →
       Mirrors run n mem (Facing m k) new (Facing (signed p s m) k)
-  passes-known not-zero s e p left = (
-    ap₂ Looking (signed-phase new m p s some left ∙ ap (with_sign (current_of m) s) rest-same) questions-same ∙ sym (looking-at (Is s) not-zero e),
-    (signed-fits new m p s k look some fits-still, ordered-before new m (signed p s m) k (signed-after m p s some) ordered-still),
+  passes_known not_zero s e p left = (
+    ap₂ Looking (signed_phase new m p s some left ∙ ap (with_sign (current_of m) s) rest-same) questions-same ∙ sym (looking_at (Is s) not_zero e),
+    (signed-fits new m p s k look some fits_still, ordered_before new m (signed p s m) k (signed_after m p s some) ordered_still),
   )
 
   pub asks : is_zero (current_of m) ≡ false → known n (leading n (current_of m)) (back mem.fact_at (facts_end m)) ≡ Unknown →
       new.question_at k ≡ Pending m Above → new.fact_at (facts_end m) ≡ record { poly = leading n (current_of m); sign = Pos } → (p : Poly) → LeftWritten new m Pos p →
       Mirrors run n mem (Facing m k) new (Facing (signed p Pos (with_one_fact m)) (suc k))
   unfolding back
-  asks not-zero e question fact p left =
-      let phase = assumed-phase n new m p Pos some left fact ∙ ap (assumed n (current_of m) Pos) rest-same in
+  asks not_zero e question fact p left =
+      let phase = assumed_phase n new m p Pos some left fact ∙ ap (assumed n (current_of m) Pos) rest-same in
       let asked = ap (question_of new) question ∙ ap (Open (current_of m) Above) rest-same in (
-        ap₂ Looking phase (ap₂ ◌∷◌ asked questions-same) ∙ sym (looking-at Unknown not-zero e),
-        assumed-sound new m p Pos k (Pending m Above) refl question (record { looks = look; ahead = some; fits = fits-still }) ordered-still,
+        ap₂ Looking phase (ap₂ ◌∷◌ asked questions-same) ∙ sym (looking_at Unknown not_zero e),
+        assumed-sound new m p Pos k (Pending m Above) refl question (record { looks = look; ahead = some; fits = fits_still }) ordered_still,
       )
 
 -- the open questions are in order where no marks are after the last
-ordered-open : (mem : Memory) (m : Marks) (t : Tree) (k : ℕ) → Ordered mem m k → Sound mem (Holding t k)
+ordered_open : (mem : Memory) (m : Marks) (t : Tree) (k : ℕ) → Ordered mem m k → Sound mem (Holding t k)
 unfolding Ordered
-ordered-open mem m t zero ordered = tt
-ordered-open mem m t (suc k) ordered = (ordered.1, ordered.2)
+ordered_open mem m t zero ordered = tt
+ordered_open mem m t (suc k) ordered = (ordered.1, ordered.2)
 
 -- the phase at the beginning of a table below
-entered-phase : (mem : Memory) (m : Marks) (p : Poly) (size : ℕ) → Untouched mem (entered p size m) → (ps : List Poly) (f : Fact) (place count : ℕ) → polys_forth mem (lefts_end m) 0 size ≡ take 64 ps → mem.fact_at (facts_end m) ≡ f →
+entered_phase : (mem : Memory) (m : Marks) (p : Poly) (size : ℕ) → Untouched mem (entered p size m) → (ps : List Poly) (f : Fact) (place count : ℕ) → polys_forth mem (lefts_end m) 0 size ≡ take 64 ps → mem.fact_at (facts_end m) ≡ f →
     mem.frame_at (frames_end m) ≡ Kept (base_of m) (done_count m) place count →
     phase_of mem (entered p size m) ≡
     Settling (deepest - suc (frames_end m)) 63 (take 64 ps) [] (f ∷ back mem.fact_at (facts_end m)) (Waiting (all_lefts mem m) place count ∷ frames_of mem (frames_end m))
 unfolding back
-entered-phase mem (Marked looks base done ahead current facts frames) p size h ps f place count polys fact frame =
+entered_phase mem (Marked looks base done ahead current facts frames) p size h ps f place count polys fact frame =
     let e = ahead-forth mem (base + done) 0 size p h ∙ polys in
     λ i. Settling (deepest - suc frames) 63 (e i) [] (fact i ∷ back mem.fact_at facts) (frame_of mem (frame i) ∷ frames_of mem frames)
 
@@ -196,8 +196,8 @@ length-forth f i zero = refl
 length-forth f i (suc k) = ap suc (length-forth f (suc i) k)
 
 -- a table has at most 64 polynomials
-forth-bound : (f : ℕ → Poly) (i size : ℕ) (ps : List Poly) → forth f i size ≡ take 64 ps → size ≤ 64
-forth-bound f i size ps e =
+forth_bound : (f : ℕ → Poly) (i size : ℕ) (ps : List Poly) → forth f i size ≡ take 64 ps → size ≤ 64
+forth_bound f i size ps e =
     let l : size ≡ length (take 64 ps) = sym (length-forth f i size) ∙ ap length e in
     let t = length-take 64 ps in
     omega arith
@@ -215,23 +215,23 @@ entered-sound : (mem new : Memory) (m : Marks) (p : Poly) (k size : ℕ) → Sou
     Sound new (Facing (entered p size m) k)
 entered-sound mem new (Marked looks base done ahead current facts frames) p k size sound agree none deep ps polys place count frame =
     let m = Marked looks base done ahead current facts frames in
-    let fits = fits-agrees mem new m k k sound.0 agree in
-    let small = forth-bound (λ j. new.poly_at (base + done + j)) 0 size ps polys in
+    let fits = fits_agrees mem new m k k sound.0 agree in
+    let small = forth_bound (λ j. new.poly_at (base + done + j)) 0 size ps polys in
     let last : frame_end (new.frame_at frames) ≤ base + done = rw frame (omega arith) in
     let f : Fits new (entered p size m) k = record {
-      looks-bound = omega arith;
-      size-bound = omega arith;
-      base-bound = let h = fits.base-bound in let l = fits.looks-bound in omega arith;
-      depth-bound = omega arith;
-      facts-count = let e = fits.facts-count in omega arith;
-      frames-below = below_suc (λ i. frame_end (new.frame_at i) ≤ base + done) frames (λ i less. let h = fits.frames-below i less in omega arith) last;
+      looks_bound = omega arith;
+      size_bound = omega arith;
+      base_bound = let h = fits.base_bound in let l = fits.looks_bound in omega arith;
+      depth_bound = omega arith;
+      facts_count = let e = fits.facts_count in omega arith;
+      frames_below = below_suc (λ i. frame_end (new.frame_at i) ≤ base + done) frames (λ i less. let h = fits.frames_below i less in omega arith) last;
     } in
     let before : Before m (entered p size m) = record { polys = omega arith; lefts = omega arith; facts = omega arith; frames = omega arith } in
-    (f, ordered-before new m (entered p size m) k before (ordered-agrees mem new m k sound.1 agree))
+    (f, ordered_before new m (entered p size m) k before (ordered_agrees mem new m k sound.1 agree))
 
 module _ (run : Run) (n : ℕ) (mem : Memory) (m : Marks) (k : ℕ) (sound : Sound mem (Facing m k)) where
-  pub gives-up-looking : looks_left m ≡ 0 → 0 < ahead_count m → Mirrors run n mem (Facing m k) mem (Holding GivenUp k)
-  gives-up-looking none some = (sym (gave m none some), ordered-open mem m GivenUp k sound.1)
+  pub gives_up_looking : looks_left m ≡ 0 → 0 < ahead_count m → Mirrors run n mem (Facing m k) mem (Holding GivenUp k)
+  gives_up_looking none some = (sym (gave m none some), ordered_open mem m GivenUp k sound.1)
     where
       gave : (m : Marks) → looks_left m ≡ 0 → 0 < ahead_count m → step run n (state_of mem (Facing m k)) ≡ Returning GivenUp (questions_of mem k)
       gave (Marked zero base done zero p facts frames) none some = absurd (omega arith)
@@ -251,14 +251,14 @@ module _ (run : Run) (n : ℕ) (mem : Memory) (m : Marks) (k : ℕ) (sound : Sou
         steps (Marked (suc looks) base done (suc ahead) p facts frames) none = absurd (omega arith)
 
     -- settled, with these real ones
-    settled-with : (ls : List Left) → reals (all_lefts mem m) ≡ ls → step run n (state_of mem (Facing m k)) ≡
+    settled_with : (ls : List Left) → reals (all_lefts mem m) ≡ ls → step run n (state_of mem (Facing m k)) ≡
         settled run.leaf n (deepest - frames_end m) ls (all_lefts mem m) (back mem.fact_at (facts_end m)) (frames_of mem (frames_end m)) (questions_of mem k)
-    settled-with ls e =
+    settled_with ls e =
         settled-step ∙ ap (λ rs. settled run.leaf n (deepest - frames_end m) rs (all_lefts mem m) (back mem.fact_at (facts_end m)) (frames_of mem (frames_end m)) (questions_of mem k)) e
 
     pub answers : reals (all_lefts mem m) ≡ [] →
         Mirrors run n mem (Facing m k) mem (Holding (resume run.leaf (frames_of mem (frames_end m)) (filled_all (all_lefts mem m) ([] ∷ []))) k)
-    answers e = (sym (settled-with [] e), ordered-open mem m GivenUp k sound.1)
+    answers e = (sym (settled_with [] e), ordered_open mem m GivenUp k sound.1)
 
     module _ (l : Left) (ls : List Left) (real : reals (all_lefts mem m) ≡ l ∷ ls) where
       abbrev place : ℕ
@@ -279,19 +279,19 @@ module _ (run : Run) (n : ℕ) (mem : Memory) (m : Marks) (k : ℕ) (sound : Sou
             | false ↦ Returning GivenUp (questions_of mem k)
           ]
 
-      tested-step : step run n (state_of mem (Facing m k)) ≡ tested (divisible n top others) (deepest - frames_end m)
+      tested_step : step run n (state_of mem (Facing m k)) ≡ tested (divisible n top others) (deepest - frames_end m)
       unfolding tested
-      tested-step = settled-with (l ∷ ls) real
+      tested_step = settled_with (l ∷ ls) real
 
-      pub gives-up-dividing : divisible n top others ≡ false → Mirrors run n mem (Facing m k) mem (Holding GivenUp k)
+      pub gives_up_dividing : divisible n top others ≡ false → Mirrors run n mem (Facing m k) mem (Holding GivenUp k)
       unfolding tested
-      gives-up-dividing e = (sym (tested-step ∙ ap (λ b. tested b (deepest - frames_end m)) e), ordered-open mem m GivenUp k sound.1)
+      gives_up_dividing e = (sym (tested_step ∙ ap (λ b. tested b (deepest - frames_end m)) e), ordered_open mem m GivenUp k sound.1)
 
-      pub gives-up-depth : frames_end m ≡ deepest → Mirrors run n mem (Facing m k) mem (Holding GivenUp k)
+      pub gives_up_depth : frames_end m ≡ deepest → Mirrors run n mem (Facing m k) mem (Holding GivenUp k)
       unfolding tested
-      gives-up-depth e =
+      gives_up_depth e =
           let deep : deepest - frames_end m ≡ 0 = omega arith in
-          (sym (tested-step ∙ (ap (tested (divisible n top others)) deep ∙ either (divisible n top others))), ordered-open mem m GivenUp k sound.1)
+          (sym (tested_step ∙ (ap (tested (divisible n top others)) deep ∙ either (divisible n top others))), ordered_open mem m GivenUp k sound.1)
         where
           either : (b : Bool) → tested b 0 ≡ Returning GivenUp (questions_of mem k)
           either true = refl
@@ -304,15 +304,15 @@ module _ (run : Run) (n : ℕ) (mem : Memory) (m : Marks) (k : ℕ) (sound : Sou
       unfolding tested
       enters new agree deep fine frame fact size ps p untouched =
           let depth : deepest - frames_end m ≡ suc (deepest - suc (frames_end m)) = omega arith in
-          let lefts : all_lefts new m ≡ all_lefts mem m = ap (λ ls. turned_round ls []) (lefts-agree mem new m k agree) in
-          let phase = entered-phase new m p size untouched (polys_below n top others) (fact_below n top) place (length (divisors n top others)) ps fact frame in
-          let facts = facts-agree mem new m k agree in
-          let frames = frames-agree mem new m k k sound.0 agree in
-          let qs = questions-agree mem new m k sound.1 agree in
+          let lefts : all_lefts new m ≡ all_lefts mem m = ap (λ ls. turned_round ls []) (lefts_agree mem new m k agree) in
+          let phase = entered_phase new m p size untouched (polys_below n top others) (fact_below n top) place (length (divisors n top others)) ps fact frame in
+          let facts = facts_agree mem new m k agree in
+          let frames = frames_agree mem new m k k sound.0 agree in
+          let qs = questions_agree mem new m k sound.1 agree in
           let next : state_of new (Facing (entered p size m) k) ≡ tested true (suc (deepest - suc (frames_end m))) =
           ap (λ ph. Looking ph (questions_of new k)) phase
           ∙ (λ i. Looking (Settling (deepest - suc (frames_end m)) 63 (take 64 (polys_below n top others)) [] (fact_below n top ∷ facts i) (Waiting (lefts i) place (length (divisors n top others)) ∷ frames i)) (qs i)) in
-          (next ∙ sym (tested-step ∙ ap₂ tested fine depth), entered-sound mem new m p k size sound agree none deep (polys_below n top others) ps place (length (divisors n top others)) frame)
+          (next ∙ sym (tested_step ∙ ap₂ tested fine depth), entered-sound mem new m p k size sound agree none deep (polys_below n top others) ps place (length (divisors n top others)) frame)
 
 -- the last question goes on with its next branch
 returns_to : (run : Run) (n : ℕ) (mem new : Memory) (t : Tree) (m : Marks) (k : ℕ) (old next : Branch) (p : Poly) (s : Sign) →
@@ -324,15 +324,15 @@ unfolding back
 returns_to run n mem new t m k old next p s goes sound was agree now fact left =
     let held : Asking mem m k × Ordered mem m k = subst (λ c. Asking mem (marks_of c) k × Ordered mem (marks_of c) k) was sound in
     let some = held.0.ahead in
-    let rest = rest-agrees mem new m k k some held.0.fits agree in
-    let qs = questions-agree mem new m k held.1 agree in
-    let phase = assumed-phase n new m p s some left fact ∙ ap (assumed n (current_of m) s) rest in
+    let rest = rest_agrees mem new m k k some held.0.fits agree in
+    let qs = questions_agree mem new m k held.1 agree in
+    let phase = assumed_phase n new m p s some left fact ∙ ap (assumed n (current_of m) s) rest in
     let question = ap (question_of new) now ∙ ap (Open (current_of m) next) rest in
     let back_to : step run n (state_of mem (Holding t (suc k))) ≡ Looking (assumed n (current_of m) s (rest_of mem m)) (Open (current_of m) next (rest_of mem m) ∷ questions_of mem k) =
     ap (λ c. step run n (Returning t (question_of mem c ∷ questions_of mem k))) was ∙ goes (rest_of mem m) (questions_of mem k) in (
       ap₂ Looking phase (ap₂ ◌∷◌ question qs) ∙ sym back_to,
-      assumed-sound new m p s k (Pending m next) refl now (record { looks = held.0.looks; ahead = some; fits = fits-agrees mem new m k k held.0.fits agree })
-          (ordered-agrees mem new m k held.1 agree),
+      assumed-sound new m p s k (Pending m next) refl now (record { looks = held.0.looks; ahead = some; fits = fits_agrees mem new m k k held.0.fits agree })
+          (ordered_agrees mem new m k held.1 agree),
     )
 
 pub returns-above : (run : Run) (n : ℕ) (mem new : Memory) (t : Tree) (m : Marks) (k : ℕ) → Sound mem (Holding t (suc k)) →
@@ -351,19 +351,19 @@ pub returns-below : (run : Run) (n : ℕ) (mem : Memory) (t at above : Tree) (m 
     Mirrors run n mem (Holding t (suc k)) mem (Holding (run.join (leading n (current_of m)) t at above) k)
 unfolding back
 returns-below run n mem t at above m k sound was =
-    (sym (ap (λ c. step run n (Returning t (question_of mem c ∷ questions_of mem k))) was), ordered-open mem (marks_of (mem.question_at k)) GivenUp k sound.1)
+    (sym (ap (λ c. step run n (Returning t (question_of mem c ∷ questions_of mem k))) was), ordered_open mem (marks_of (mem.question_at k)) GivenUp k sound.1)
 
 pub begins : (mem : Memory) (ps : List Poly) (p : Poly) (size : ℕ) → polys_forth mem 0 0 size ≡ take 64 ps → Untouched mem (Marked 63 0 0 size p 0 0) →
     let s = Facing (Marked 63 0 0 size p 0 0) 0 in (state_of mem s ≡ start 40 ps) × Sound mem s
 unfolding back Ordered
 begins mem ps p size e untouched =
-    let small = forth-bound (λ j. mem.poly_at (0 + j)) 0 size ps e in
+    let small = forth_bound (λ j. mem.poly_at (0 + j)) 0 size ps e in
     let f : Fits mem (Marked 63 0 0 size p 0 0) 0 = record {
-      looks-bound = omega arith;
-      size-bound = omega arith;
-      base-bound = omega arith;
-      depth-bound = omega arith;
-      facts-count = omega arith;
-      frames-below = λ i less. absurd (omega arith);
+      looks_bound = omega arith;
+      size_bound = omega arith;
+      base_bound = omega arith;
+      depth_bound = omega arith;
+      facts_count = omega arith;
+      frames_below = λ i less. absurd (omega arith);
     } in
     (ap (λ qs. Looking (Settling 39 63 qs [] [] []) []) (ahead-forth mem 0 0 size p untouched ∙ e), (f, tt))

@@ -1,57 +1,57 @@
 -- The theorems, from the lemmas. Assumes nothing.
 use mathlib.Core.Path.{sym, ◌∙◌}
 use Rattle.machine.specs.Theorems.{MakesTable, Ends, LeavesApart, Counts, Collects, GivesUp, EliminatesBySteps}
-use Rattle.machine.proofs.Denotes.{step_keeps, start-denotes, finished-denotes}
-use Rattle.machine.proofs.Ends.{makes, step_falls, no-work-finished}
+use Rattle.machine.proofs.Denotes.{step_keeps, start_denotes, finished_denotes}
+use Rattle.machine.proofs.Ends.{makes, step_falls, no_work_finished}
 use Rattle.machine.proofs.Outline.{questions-leaves, asked-leaves}
-use Rattle.machine.proofs.Counting.{todo-start, todo-step, todo-finished, open_step, opened-and-todo, open-opened, collected-start, collected-step, collected-finished}
-use Rattle.machine.proofs.Collected.{asked-grows, collected-grows}
-use Rattle.machine.proofs.Elimination.{given-up-stays, thirteenth-asked, many-questions, thirteenth-collected, few-questions, collected-next, rows-answer}
+use Rattle.machine.proofs.Counting.{todo_start, todo_step, todo_finished, open_step, opened_and_todo, open_opened, collected_start, collected_step, collected_finished}
+use Rattle.machine.proofs.Collected.{asked_grows, collected_grows}
+use Rattle.machine.proofs.Elimination.{given_up_stays, thirteenth_asked, many_questions, thirteenth_collected, few_questions, collected_next, rows_answer}
 
-pub makes-table : MakesTable
-makes-table = record {
+pub makes_table : MakesTable
+makes_table = record {
   step_keeps = step_keeps;
-  start-denotes = λ leaf depth n ps. start-denotes leaf n depth ps;
-  finished-denotes = finished-denotes;
+  start_denotes = λ leaf depth n ps. start_denotes leaf n depth ps;
+  finished_denotes = finished_denotes;
   makes = makes;
 }
 
-pub machine-ends : Ends
-machine-ends = record { step_falls = step_falls; no-work-finished = no-work-finished }
+pub machine_ends : Ends
+machine_ends = record { step_falls = step_falls; no_work_finished = no_work_finished }
 
-pub leaves-apart : LeavesApart
-leaves-apart = record {
-  same-questions = λ leaf other h k depth n ps. questions-leaves leaf h depth n ps ∙ sym (questions-leaves other k depth n ps);
+pub leaves_apart : LeavesApart
+leaves_apart = record {
+  same_questions = λ leaf other h k depth n ps. questions-leaves leaf h depth n ps ∙ sym (questions-leaves other k depth n ps);
   same_asked = λ leaf other h k depth n v ps qs. asked-leaves leaf h depth n v ps qs ∙ sym (asked-leaves other k depth n v ps qs);
 }
 
 pub counts : Counts
 counts = record {
-  todo-start = todo-start;
-  todo-step = todo-step;
-  todo-finished = todo-finished;
+  todo_start = todo_start;
+  todo_step = todo_step;
+  todo_finished = todo_finished;
   open_step = open_step;
-  opened-and-todo = opened-and-todo;
-  open-opened = open-opened;
+  opened_and_todo = opened_and_todo;
+  open_opened = open_opened;
 }
 
 pub collects : Collects
 collects = record {
-  collected-start = collected-start;
-  collected-step = collected-step;
-  collected-finished = collected-finished;
-  asked-grows = asked-grows;
-  collected-grows = collected-grows;
+  collected_start = collected_start;
+  collected_step = collected_step;
+  collected_finished = collected_finished;
+  asked_grows = asked_grows;
+  collected_grows = collected_grows;
 }
 
 pub gives_up : GivesUp
-gives_up = record { given-up-stays = given-up-stays; thirteenth-asked = thirteenth-asked }
+gives_up = record { given_up_stays = given_up_stays; thirteenth_asked = thirteenth_asked }
 
-pub eliminates-by-steps : EliminatesBySteps
-eliminates-by-steps = record {
-  many-questions = many-questions;
-  thirteenth-collected = thirteenth-collected;
-  few-questions = few-questions;
-  collected-next = collected-next;
-  rows-answer = rows-answer;
+pub eliminates_by_steps : EliminatesBySteps
+eliminates_by_steps = record {
+  many_questions = many_questions;
+  thirteenth_collected = thirteenth_collected;
+  few_questions = few_questions;
+  collected_next = collected_next;
+  rows_answer = rows_answer;
 }

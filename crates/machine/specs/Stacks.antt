@@ -164,12 +164,12 @@ pub record Before (m o : Marks) : Type 0 where
 
 -- the bounds of marks with k questions open, and waiting tables stand before this one
 pub record Fits (mem : Memory) (m : Marks) (k : ℕ) : Type 0 where
-  pub looks-bound : done_count m + looks_left m ≤ 63
-  pub size-bound : done_count m + ahead_count m ≤ 64
-  pub base-bound : base_of m ≤ 63 * frames_end m
-  pub depth-bound : frames_end m ≤ deepest
-  pub facts-count : facts_end m ≡ frames_end m + k
-  pub frames-below : (i : ℕ) → i < frames_end m → frame_end (mem.frame_at i) ≤ base_of m
+  pub looks_bound : done_count m + looks_left m ≤ 63
+  pub size_bound : done_count m + ahead_count m ≤ 64
+  pub base_bound : base_of m ≤ 63 * frames_end m
+  pub depth_bound : frames_end m ≤ deepest
+  pub facts_count : facts_end m ≡ frames_end m + k
+  pub frames_below : (i : ℕ) → i < frames_end m → frame_end (mem.frame_at i) ≤ base_of m
 
 -- the marks of a question could be looked at, and fit
 pub record Asking (mem : Memory) (m : Marks) (k : ℕ) : Type 0 where

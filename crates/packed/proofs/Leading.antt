@@ -14,13 +14,13 @@ unfolding last_key
 last_none [] e = refl
 last_none (m ∷ ms) e = absurd (omega arith)
 
-pub last-at : (ts : List Monomial) → (length ts ≡ 0 → ⊥) → last_key ts ≡ (term_at ts (length ts - 1)).key
+pub last_at : (ts : List Monomial) → (length ts ≡ 0 → ⊥) → last_key ts ≡ (term_at ts (length ts - 1)).key
 unfolding last_key
-last-at [] h = absurd (h refl)
-last-at (m ∷ []) h = refl
-last-at (m ∷ k ∷ ms) h =
+last_at [] h = absurd (h refl)
+last_at (m ∷ []) h = refl
+last_at (m ∷ k ∷ ms) h =
     let e : suc (suc (length ms)) - 1 ≡ suc (length (k ∷ ms) - 1) = omega arith in
-    last-at (k ∷ ms) (λ z. omega arith) ∙ ap (λ j. (term_at (m ∷ k ∷ ms) j).key) (sym e)
+    last_at (k ∷ ms) (λ z. omega arith) ∙ ap (λ j. (term_at (m ∷ k ∷ ms) j).key) (sym e)
 
 -- a place of a list
 pub from_place : (ts : List Monomial) (i : ℕ) → i < length ts → drop i ts ≡ term_at ts i ∷ drop (i + 1) ts
@@ -37,9 +37,9 @@ count_less : (b : ℕ) (m : Monomial) (ms : List Monomial) → m.key < b → cou
 unfolding counted
 count_less b m ms h = count_by b m ms ∙ ap (counted b m ms) (lt-ltb m.key b h)
 
-count-end : (b : ℕ) (m : Monomial) (ms : List Monomial) → b ≤ m.key → count_below b (m ∷ ms) ≡ 0
+count_end : (b : ℕ) (m : Monomial) (ms : List Monomial) → b ≤ m.key → count_below b (m ∷ ms) ≡ 0
 unfolding counted
-count-end b m ms h = count_by b m ms ∙ ap (counted b m ms) (le-ltb m.key b h)
+count_end b m ms h = count_by b m ms ∙ ap (counted b m ms) (le-ltb m.key b h)
 
 -- one more that is below
 pub below_more : (b : ℕ) (ts : List Monomial) (i : ℕ) → i < length ts → (term_at ts i).key < b → i + 1 + count_below b (drop (i + 1) ts) ≡ i + count_below b (drop i ts)
@@ -48,8 +48,8 @@ below_more b ts i h l =
     omega arith
 
 -- the first that isn't, or the end
-pub below-stop : (b : ℕ) (ts : List Monomial) (i : ℕ) → i < length ts → b ≤ (term_at ts i).key → count_below b (drop i ts) ≡ 0
-below-stop b ts i h l = ap (count_below b) (from_place ts i h) ∙ count-end b (term_at ts i) (drop (i + 1) ts) l
+pub below_stop : (b : ℕ) (ts : List Monomial) (i : ℕ) → i < length ts → b ≤ (term_at ts i).key → count_below b (drop i ts) ≡ 0
+below_stop b ts i h l = ap (count_below b) (from_place ts i h) ∙ count_end b (term_at ts i) (drop (i + 1) ts) l
 
 pub below_end : (b : ℕ) (ts : List Monomial) (i : ℕ) → length ts ≤ i → count_below b (drop i ts) ≡ 0
 unfolding count_below
@@ -62,13 +62,13 @@ below-most b [] = none b
     none b = unfold count_below in omega arith
 below-most b (m ∷ ms) =
     let ih = below-most b ms in
-    on_test (ltb m.key b) (λ _. count_below b (m ∷ ms) ≤ suc (length ms)) (λ t. omega (arith, count_less b m ms (ltb→lt m.key b t))) (λ t. omega (arith, count-end b m ms (nltb→le m.key b t)))
+    on_test (ltb m.key b) (λ _. count_below b (m ∷ ms) ≤ suc (length ms)) (λ t. omega (arith, count_less b m ms (ltb→lt m.key b t))) (λ t. omega (arith, count_end b m ms (nltb→le m.key b t)))
 
-rising-from : (lo hi : ℕ) (ts : List Monomial) (i : ℕ) → Rising lo hi ts → i < length ts → lo ≤ (term_at ts i).key
+rising_from : (lo hi : ℕ) (ts : List Monomial) (i : ℕ) → Rising lo hi ts → i < length ts → lo ≤ (term_at ts i).key
 unfolding Rising
-rising-from lo hi [] i r h = absurd (omega arith)
-rising-from lo hi (m ∷ ms) zero r h = r.0
-rising-from lo hi (m ∷ ms) (suc i) r h = let k = r.0 in let l = rising-from (suc m.key) hi ms i r.3 (le_of_suc-le-suc h) in omega arith
+rising_from lo hi [] i r h = absurd (omega arith)
+rising_from lo hi (m ∷ ms) zero r h = r.0
+rising_from lo hi (m ∷ ms) (suc i) r h = let k = r.0 in let l = rising_from (suc m.key) hi ms i r.3 (le_of_suc-le-suc h) in omega arith
 
 -- from there on no key is below
 pub rising-above : (lo hi b : ℕ) (ts : List Monomial) (i : ℕ) → Rising lo hi ts → count_below b ts ≤ i → i < length ts → b ≤ (term_at ts i).key
@@ -78,7 +78,7 @@ rising-above lo hi b (m ∷ ms) zero r h l =
     on_test (ltb m.key b) (λ _. b ≤ m.key) (λ t. absurd (let e = count_less b m ms (ltb→lt m.key b t) in omega arith)) (λ t. nltb→le m.key b t)
 rising-above lo hi b (m ∷ ms) (suc i) r h l =
     let ih = rising-above (suc m.key) hi b ms i r.3 in
-    let up = rising-from (suc m.key) hi ms i r.3 (le_of_suc-le-suc l) in
+    let up = rising_from (suc m.key) hi ms i r.3 (le_of_suc-le-suc l) in
     on_test (ltb m.key b) (λ _. b ≤ (term_at ms i).key) (λ t. ih (let e = count_less b m ms (ltb→lt m.key b t) in omega arith) (le_of_suc-le-suc l))
     (λ t. let k = nltb→le m.key b t in omega arith)
 
@@ -120,9 +120,9 @@ length-degree n [] h = absurd (omega arith)
 length-degree n (m ∷ ms) h = refl
 
 -- where one leading coefficient begins, seen from where the other does
-pub leading-gap : (n : ℕ) (p s : List Monomial) → 0 < length_terms n p → length_terms n p ≤ length_terms n s →
+pub leading_gap : (n : ℕ) (p s : List Monomial) → 0 < length_terms n p → length_terms n p ≤ length_terms n s →
     leading_key n s ≡ (length_terms n s - length_terms n p) * 32 ^ n + leading_key n p
-leading-gap n p s h l =
+leading_gap n p s h l =
     let a : length_terms n p ≡ degree_terms n p + 1 = length-degree n p h in
     let b : length_terms n s ≡ degree_terms n s + 1 = length-degree n s (omega arith) in
     let e : degree_terms n s ≡ length_terms n s - length_terms n p + degree_terms n p = omega arith in
@@ -138,11 +138,11 @@ raised-lowered e d f (m ∷ ms) q h =
     ap₂ (λ x w. monomial x m.times ∷ w) same (raised-lowered e d f ms q (λ i l. h (suc i) (suc-le-suc l)))
 
 -- the leading coefficient, moved up as far as the other begins below it
-pub leading-raised : (lo hi n : ℕ) (p s : List Monomial) → Rising lo hi s → 0 < length_terms n p → length_terms n p ≤ length_terms n s →
+pub leading_raised : (lo hi n : ℕ) (p s : List Monomial) → Rising lo hi s → 0 < length_terms n p → length_terms n p ≤ length_terms n s →
     raised ((length_terms n s - length_terms n p) * 32 ^ n) (leading_terms n s) ≡ lowered (leading_key n p) (drop (count_below (leading_key n s) s) s)
-leading-raised lo hi n p s r h l =
+leading_raised lo hi n p s r h l =
     let b = leading_key n s in
-    raised-lowered ((length_terms n s - length_terms n p) * 32 ^ n) (leading_key n p) b (drop (count_below b s) s) (leading-gap n p s h l)
+    raised-lowered ((length_terms n s - length_terms n p) * 32 ^ n) (leading_key n p) b (drop (count_below b s) s) (leading_gap n p s h l)
     (λ i k.
     let e : term_at (drop (count_below b s) s) i ≡ term_at s (count_below b s + i) = get_or-drop (count_below b s) s i (monomial 0 (pos 0)) in
     let g : b ≤ (term_at s (count_below b s + i)).key = rising-above lo hi b s (count_below b s + i) r (omega arith) (omega (arith, length-drop (count_below b s) s, k)) in

@@ -17,11 +17,11 @@ unfolding lowered
 length-lowered d [] = refl
 length-lowered d (m ∷ ms) = ap suc (length-lowered d ms)
 
-pub lowered-at : (d : ℕ) (ts : List Monomial) (i : ℕ) → i < length ts → term_at (lowered d ts) i ≡ monomial ((term_at ts i).key - d) (term_at ts i).times
+pub lowered_at : (d : ℕ) (ts : List Monomial) (i : ℕ) → i < length ts → term_at (lowered d ts) i ≡ monomial ((term_at ts i).key - d) (term_at ts i).times
 unfolding lowered
-lowered-at d [] i h = absurd (omega arith)
-lowered-at d (m ∷ ms) zero h = refl
-lowered-at d (m ∷ ms) (suc i) h = lowered-at d ms i (le_of_suc-le-suc h)
+lowered_at d [] i h = absurd (omega arith)
+lowered_at d (m ∷ ms) zero h = refl
+lowered_at d (m ∷ ms) (suc i) h = lowered_at d ms i (le_of_suc-le-suc h)
 
 pub lowered_none : (ts : List Monomial) → lowered 0 ts ≡ ts
 unfolding lowered
@@ -40,13 +40,13 @@ view-rising v = (test-stored v.cells.now v.stored).rising
 pub view-sizes : (v : View) → SizesAtMost (2 ^ 27 - 1) (terms_in v)
 view-sizes v = (test-stored v.cells.now v.stored).sizes
 
-pub stretch-length : (s : Stretch) → length (stretch_terms s) ≡ length (terms_in s.view) - s.from
-stretch-length s = length-lowered s.down (drop s.from (terms_in s.view)) ∙ length-drop s.from (terms_in s.view)
+pub stretch_length : (s : Stretch) → length (stretch_terms s) ≡ length (terms_in s.view) - s.from
+stretch_length s = length-lowered s.down (drop s.from (terms_in s.view)) ∙ length-drop s.from (terms_in s.view)
 
-pub stretch-at : (s : Stretch) (i : ℕ) → i < length (stretch_terms s) →
+pub stretch_at : (s : Stretch) (i : ℕ) → i < length (stretch_terms s) →
     term_at (stretch_terms s) i ≡ monomial ((term_at (terms_in s.view) (s.from + i)).key - s.down) (term_at (terms_in s.view) (s.from + i)).times
-stretch-at s i h =
-    lowered-at s.down (drop s.from (terms_in s.view)) i (omega (arith, length-lowered s.down (drop s.from (terms_in s.view)))) ∙
+stretch_at s i h =
+    lowered_at s.down (drop s.from (terms_in s.view)) i (omega (arith, length-lowered s.down (drop s.from (terms_in s.view)))) ∙
     ap (λ m. monomial (m.key - s.down) m.times) (get_or-drop s.from (terms_in s.view) i (monomial 0 (pos 0)))
 
 lowered-keys : (hi d : ℕ) (ts : List Monomial) → KeysBelow hi ts → KeysBelow hi (lowered d ts)
@@ -71,11 +71,11 @@ drop-sizes b zero ts k = k
 drop-sizes b (suc i) [] k = tt
 drop-sizes b (suc i) (m ∷ ms) k = drop-sizes b i ms k.1
 
-pub stretch-short : (s : Stretch) → length (stretch_terms s) ≤ 64
-stretch-short s = omega (arith, stretch-length s, view-short s.view)
+pub stretch_short : (s : Stretch) → length (stretch_terms s) ≤ 64
+stretch_short s = omega (arith, stretch_length s, view-short s.view)
 
-pub stretch-keys : (s : Stretch) → KeysBelow (2 ^ 19) (stretch_terms s)
-stretch-keys s = lowered-keys (2 ^ 19) s.down (drop s.from (terms_in s.view)) (drop-keys (2 ^ 19) s.from (terms_in s.view) (view-keys s.view))
+pub stretch_keys : (s : Stretch) → KeysBelow (2 ^ 19) (stretch_terms s)
+stretch_keys s = lowered-keys (2 ^ 19) s.down (drop s.from (terms_in s.view)) (drop-keys (2 ^ 19) s.from (terms_in s.view) (view-keys s.view))
 
-pub stretch-sizes : (s : Stretch) → SizesAtMost (2 ^ 27 - 1) (stretch_terms s)
-stretch-sizes s = lowered-sizes (2 ^ 27 - 1) s.down (drop s.from (terms_in s.view)) (drop-sizes (2 ^ 27 - 1) s.from (terms_in s.view) (view-sizes s.view))
+pub stretch_sizes : (s : Stretch) → SizesAtMost (2 ^ 27 - 1) (stretch_terms s)
+stretch_sizes s = lowered-sizes (2 ^ 27 - 1) s.down (drop s.from (terms_in s.view)) (drop-sizes (2 ^ 27 - 1) s.from (terms_in s.view) (view-sizes s.view))

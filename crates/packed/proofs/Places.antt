@@ -13,23 +13,23 @@ unfolding monomials_of
 length-monomials [] = refl
 length-monomials (z ∷ zs) = ap suc (length-monomials zs)
 
-pub monomial-at : (zs : List ℤ) (i : ℕ) → i < length zs → term_at (monomials_of zs) i ≡ monomial_of (get_or zs i (pos 0))
+pub monomial_at : (zs : List ℤ) (i : ℕ) → i < length zs → term_at (monomials_of zs) i ≡ monomial_of (get_or zs i (pos 0))
 unfolding monomials_of
-monomial-at [] i h = absurd (omega arith)
-monomial-at (z ∷ zs) zero h = refl
-monomial-at (z ∷ zs) (suc i) h = monomial-at zs i (le_of_suc-le-suc h)
+monomial_at [] i h = absurd (omega arith)
+monomial_at (z ∷ zs) zero h = refl
+monomial_at (z ∷ zs) (suc i) h = monomial_at zs i (le_of_suc-le-suc h)
 
-pub key-at : (hi : ℕ) (ts : List Monomial) (i : ℕ) → KeysBelow hi ts → i < length ts → (term_at ts i).key < hi
+pub key_at : (hi : ℕ) (ts : List Monomial) (i : ℕ) → KeysBelow hi ts → i < length ts → (term_at ts i).key < hi
 unfolding KeysBelow
-key-at hi [] i k h = absurd (omega arith)
-key-at hi (t ∷ ts) zero k h = k.0
-key-at hi (t ∷ ts) (suc i) k h = key-at hi ts i k.1 (le_of_suc-le-suc h)
+key_at hi [] i k h = absurd (omega arith)
+key_at hi (t ∷ ts) zero k h = k.0
+key_at hi (t ∷ ts) (suc i) k h = key_at hi ts i k.1 (le_of_suc-le-suc h)
 
-pub size-at : (b : ℕ) (ts : List Monomial) (i : ℕ) → SizesAtMost b ts → i < length ts → magnitude (term_at ts i).times ≤ b
+pub size_at : (b : ℕ) (ts : List Monomial) (i : ℕ) → SizesAtMost b ts → i < length ts → magnitude (term_at ts i).times ≤ b
 unfolding SizesAtMost
-size-at b [] i k h = absurd (omega arith)
-size-at b (t ∷ ts) zero k h = k.0
-size-at b (t ∷ ts) (suc i) k h = size-at b ts i k.1 (le_of_suc-le-suc h)
+size_at b [] i k h = absurd (omega arith)
+size_at b (t ∷ ts) zero k h = k.0
+size_at b (t ∷ ts) (suc i) k h = size_at b ts i k.1 (le_of_suc-le-suc h)
 
 pub rising-keys : (lo hi : ℕ) (ts : List Monomial) → Rising lo hi ts → KeysBelow hi ts
 unfolding Rising KeysBelow

@@ -6,15 +6,15 @@ use Rattle.packed.specs.Terms.{term_at}
 use Rattle.packed.specs.Signed.{signed, signed_number, same_monomial}
 use Rattle.packed.proofs.Leading.{from_place}
 
-negated-at : (ts : List Monomial) (i : ℕ) → i < length ts → term_at (neg_terms ts) i ≡ monomial (term_at ts i).key (neg_ℤ (term_at ts i).times)
+negated_at : (ts : List Monomial) (i : ℕ) → i < length ts → term_at (neg_terms ts) i ≡ monomial (term_at ts i).key (neg_ℤ (term_at ts i).times)
 unfolding neg_terms
-negated-at [] i h = absurd (omega arith)
-negated-at (m ∷ ms) zero h = refl
-negated-at (m ∷ ms) (suc i) h = negated-at ms i (le_of_suc-le-suc h)
+negated_at [] i h = absurd (omega arith)
+negated_at (m ∷ ms) zero h = refl
+negated_at (m ∷ ms) (suc i) h = negated_at ms i (le_of_suc-le-suc h)
 
-pub signed-at : (b : Bool) (ts : List Monomial) (i : ℕ) → i < length ts → term_at (signed b ts) i ≡ monomial (term_at ts i).key (signed_number b (term_at ts i).times)
-signed-at true ts i h = negated-at ts i h
-signed-at false ts i h = refl
+pub signed_at : (b : Bool) (ts : List Monomial) (i : ℕ) → i < length ts → term_at (signed b ts) i ≡ monomial (term_at ts i).key (signed_number b (term_at ts i).times)
+signed_at true ts i h = negated_at ts i h
+signed_at false ts i h = refl
 
 length-negated : (ts : List Monomial) → length (neg_terms ts) ≡ length ts
 unfolding neg_terms
@@ -37,13 +37,13 @@ other_length (a ∷ p) (b ∷ q) h = ap (λ t. same_monomial a b && t) (other_le
     none true = refl
     none false = refl
 
-same-cons : (a b : Monomial) (p q : List Monomial) → same_terms (a ∷ p) (b ∷ q) ≡ same_monomial a b && same_terms p q
+same_cons : (a b : Monomial) (p q : List Monomial) → same_terms (a ∷ p) (b ∷ q) ≡ same_monomial a b && same_terms p q
 unfolding same_terms
-same-cons a b p q = refl
+same_cons a b p q = refl
 
 pub same_place : (p q : List Monomial) (i : ℕ) → i < length p → i < length q →
     same_terms (drop i p) (drop i q) ≡ same_monomial (term_at p i) (term_at q i) && same_terms (drop (i + 1) p) (drop (i + 1) q)
-same_place p q i h g = ap₂ same_terms (from_place p i h) (from_place q i g) ∙ same-cons (term_at p i) (term_at q i) (drop (i + 1) p) (drop (i + 1) q)
+same_place p q i h g = ap₂ same_terms (from_place p i h) (from_place q i g) ∙ same_cons (term_at p i) (term_at q i) (drop (i + 1) p) (drop (i + 1) q)
 
 pub same_none : same_terms [] [] ≡ true
 unfolding same_terms

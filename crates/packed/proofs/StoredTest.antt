@@ -5,7 +5,7 @@ use Rattle.poly.specs.Modest.{magnitude}
 use Rattle.terms.specs.Monomial.{Monomial, Rising}
 use Rattle.terms.specs.Sizes.{SizesAtMost}
 use Rattle.terms.specs.Cells.{monomials_of}
-use Rattle.terms.proofs.Tests.{T-both, both-T, T_true}
+use Rattle.terms.proofs.Tests.{T-both, both_T, T_true}
 use Rattle.packed.specs.Stored.{Stored, is_rising, are_small, is_stored}
 
 is_t : (b : Bool) → b ≡ true → T b
@@ -16,7 +16,7 @@ unfolding Rising is_rising
 rising-test lo hi [] r = tt
 rising-test lo hi (m ∷ ms) r =
     let more = rising-test (suc m.key) hi ms r.3 in
-    both-T _ _ (both-T _ _ (both-T _ _ (le→leb lo m.key r.0) (lt→ltb m.key hi r.1)) r.2) more
+    both_T _ _ (both_T _ _ (both_T _ _ (le→leb lo m.key r.0) (lt→ltb m.key hi r.1)) r.2) more
 
 test_rising : (lo hi : ℕ) (ts : List Monomial) → T (is_rising lo hi ts) → Rising lo hi ts
 unfolding Rising is_rising
@@ -30,7 +30,7 @@ test_rising lo hi (m ∷ ms) t =
 small-test : (b : ℕ) (ts : List Monomial) → SizesAtMost b ts → T (are_small b ts)
 unfolding SizesAtMost are_small
 small-test b [] s = tt
-small-test b (m ∷ ms) s = both-T _ _ (le→leb (magnitude m.times) b s.0) (small-test b ms s.1)
+small-test b (m ∷ ms) s = both_T _ _ (le→leb (magnitude m.times) b s.0) (small-test b ms s.1)
 
 test-small : (b : ℕ) (ts : List Monomial) → T (are_small b ts) → SizesAtMost b ts
 unfolding SizesAtMost are_small
@@ -42,7 +42,7 @@ pub stored-test : (cells : List ℤ) → Stored cells → is_stored cells ≡ tr
 unfolding is_stored
 stored-test cells s =
     T_true (is_stored cells)
-    (both-T _ _ (both-T _ _ (rising-test 0 (2 ^ 19) (monomials_of cells) s.rising) (small-test (2 ^ 27 - 1) (monomials_of cells) s.sizes)) (le→leb (length cells) 64 s.short))
+    (both_T _ _ (both_T _ _ (rising-test 0 (2 ^ 19) (monomials_of cells) s.rising) (small-test (2 ^ 27 - 1) (monomials_of cells) s.sizes)) (le→leb (length cells) 64 s.short))
 
 pub test-stored : (cells : List ℤ) → is_stored cells ≡ true → Stored cells
 unfolding is_stored

@@ -11,18 +11,18 @@ use Rattle.poly.specs.Poly.{Poly}
 use Rattle.poly.specs.Arithmetic.{constant, variable, sum, product}
 use Rattle.poly.specs.Modest.{modest, Checked, TooBig, Fine, checked, on_both, term_poly}
 use Rattle.poly.specs.Value.{value, Depth}
-use Rattle.poly.proofs.Depth.{Depth-constant, Depth-variable, Depth-sum, Depth-product}
-use Rattle.poly.proofs.Values.{value-constant, value-variable, value-sum, value-product}
+use Rattle.poly.proofs.Depth.{Depth_constant, Depth_variable, Depth_sum, Depth_product}
+use Rattle.poly.proofs.Values.{value_constant, value_variable, value_sum, value_product}
 
-never-fine : {A : Type 0} (p : Poly) → TooBig ≡ Fine p → A
-never-fine p e = let z : ◌≡◌ {A = ℕ} 0 1 = cc in absurd (omega arith)
+never_fine : {A : Type 0} (p : Poly) → TooBig ≡ Fine p → A
+never_fine p e = let z : ◌≡◌ {A = ℕ} 0 1 = cc in absurd (omega arith)
 
-checked-fine : (n : ℕ) (q p : Poly) → checked n q ≡ Fine p → q ≡ p
-checked-fine n q p = fine (modest n q)
+checked_fine : (n : ℕ) (q p : Poly) → checked n q ≡ Fine p → q ≡ p
+checked_fine n q p = fine (modest n q)
   where
     fine : (b : Bool) → cond b (Fine q) TooBig ≡ Fine p → q ≡ p
     fine true e = cc
-    fine false e = never-fine p e
+    fine false e = never_fine p e
 
 module _ {R : Type 0} (f : RealClosedField R) (e : List R) where
   -- p is a polynomial in the variables e, with the value v
@@ -30,26 +30,26 @@ module _ {R : Type 0} (f : RealClosedField R) (e : List R) where
   Stands p v = Depth (length e) p × (value f p e ≡ v)
 
   stands-checked : (q p : Poly) (v : R) → Stands q v → checked (length e) q ≡ Fine p → Stands p v
-  stands-checked q p v h c = subst (λ r. Stands r v) (checked-fine (length e) q p c) h
+  stands-checked q p v h c = subst (λ r. Stands r v) (checked_fine (length e) q p c) h
 
-  stands-both : (op : Poly → Poly → Poly) (m : R → R → R) → ((p q : Poly) → Depth (length e) p → Depth (length e) q → Stands (op p q) (m (value f p e) (value f q e))) →
+  stands_both : (op : Poly → Poly → Poly) (m : R → R → R) → ((p q : Poly) → Depth (length e) p → Depth (length e) q → Stands (op p q) (m (value f p e) (value f q e))) →
       (a b : Checked) (u v : R) → ((p : Poly) → a ≡ Fine p → Stands p u) → ((q : Poly) → b ≡ Fine q → Stands q v) →
       (r : Poly) → on_both (λ p q. checked (length e) (op p q)) a b ≡ Fine r → Stands r (m u v)
-  stands-both op m h TooBig b u v ha hb r c = never-fine r c
-  stands-both op m h (Fine p) TooBig u v ha hb r c = never-fine r c
-  stands-both op m h (Fine p) (Fine q) u v ha hb r c =
+  stands_both op m h TooBig b u v ha hb r c = never_fine r c
+  stands_both op m h (Fine p) TooBig u v ha hb r c = never_fine r c
+  stands_both op m h (Fine p) (Fine q) u v ha hb r c =
       let (dp, vp) = ha p refl in
       let (dq, vq) = hb q refl in
       let (d, w) = h p q dp dq in
       stands-checked (op p q) r (m u v) (d, w ∙ ap₂ m vp vq) c
 
-  pub value-term : (t : Term) (p : Poly) → term_poly (length e) t ≡ Fine p → Stands p (term_value f e t)
+  pub value_term : (t : Term) (p : Poly) → term_poly (length e) t ≡ Fine p → Stands p (term_value f e t)
   unfolding term_poly term_value
-  value-term (Var i) p c = stands-checked (variable (length e) i) p _ (Depth-variable (length e) i, value-variable f e i) c
-  value-term (Num z) p c = stands-checked (constant (length e) z) p _ (Depth-constant (length e) z, value-constant f e z) c
-  value-term (Sum s t) p c =
-      stands-both (sum (length e)) f.add (λ p q d k. (Depth-sum (length e) p q d k, value-sum f e p q d k))
-      (term_poly (length e) s) (term_poly (length e) t) (term_value f e s) (term_value f e t) (value-term s) (value-term t) p c
-  value-term (Product s t) p c =
-      stands-both (product (length e)) f.mul (λ p q d k. (Depth-product (length e) p q d k, value-product f e p q d k))
-      (term_poly (length e) s) (term_poly (length e) t) (term_value f e s) (term_value f e t) (value-term s) (value-term t) p c
+  value_term (Var i) p c = stands-checked (variable (length e) i) p _ (Depth_variable (length e) i, value_variable f e i) c
+  value_term (Num z) p c = stands-checked (constant (length e) z) p _ (Depth_constant (length e) z, value_constant f e z) c
+  value_term (Sum s t) p c =
+      stands_both (sum (length e)) f.add (λ p q d k. (Depth_sum (length e) p q d k, value_sum f e p q d k))
+      (term_poly (length e) s) (term_poly (length e) t) (term_value f e s) (term_value f e t) (value_term s) (value_term t) p c
+  value_term (Product s t) p c =
+      stands_both (product (length e)) f.mul (λ p q d k. (Depth_product (length e) p q d k, value_product f e p q d k))
+      (term_poly (length e) s) (term_poly (length e) t) (term_value f e s) (term_value f e t) (value_term s) (value_term t) p c

@@ -15,16 +15,16 @@ use Rattle.roots.specs.Value.{value as value_of, slope}
 
 -- Each operation keeps the count of variables.
 pub record DepthLaws : Type 0 where
-  pub Depth-zero_poly : (n : ℕ) → Depth n (zero_poly n)
-  pub Depth-constant : (n : ℕ) (z : ℤ) → Depth n (constant n z)
-  pub Depth-variable : (n i : ℕ) → Depth n (variable n i)
-  pub Depth-sum : (n : ℕ) (p q : Poly) → Depth n p → Depth n q → Depth n (sum n p q)
-  pub Depth-product : (n : ℕ) (p q : Poly) → Depth n p → Depth n q → Depth n (product n p q)
-  pub Depth-negative : (n : ℕ) (p : Poly) → Depth n p → Depth n (negative n p)
-  pub Depth-leading : (n : ℕ) (p : Poly) → Depth (suc n) p → Depth n (leading n p)
-  pub Depth-without_leading : (n : ℕ) (p : Poly) → Depth (suc n) p → Depth (suc n) (without_leading p)
-  pub Depth-derivative : (n : ℕ) (p : Poly) → Depth (suc n) p → Depth (suc n) (derivative n p)
-  pub Depth-remainder : (n : ℕ) (h : Sign) (p s r : Poly) → Depth (suc n) p → Depth (suc n) s → remainder n h p s ≡ Fine r → Depth (suc n) r
+  pub Depth_zero_poly : (n : ℕ) → Depth n (zero_poly n)
+  pub Depth_constant : (n : ℕ) (z : ℤ) → Depth n (constant n z)
+  pub Depth_variable : (n i : ℕ) → Depth n (variable n i)
+  pub Depth_sum : (n : ℕ) (p q : Poly) → Depth n p → Depth n q → Depth n (sum n p q)
+  pub Depth_product : (n : ℕ) (p q : Poly) → Depth n p → Depth n q → Depth n (product n p q)
+  pub Depth_negative : (n : ℕ) (p : Poly) → Depth n p → Depth n (negative n p)
+  pub Depth_leading : (n : ℕ) (p : Poly) → Depth (suc n) p → Depth n (leading n p)
+  pub Depth_without_leading : (n : ℕ) (p : Poly) → Depth (suc n) p → Depth (suc n) (without_leading p)
+  pub Depth_derivative : (n : ℕ) (p : Poly) → Depth (suc n) p → Depth (suc n) (derivative n p)
+  pub Depth_remainder : (n : ℕ) (h : Sign) (p s r : Poly) → Depth (suc n) p → Depth (suc n) s → remainder n h p s ≡ Fine r → Depth (suc n) r
 
 module _ {R : Type 0} (f : RealClosedField R) where
   open f use {zero as 𝟘, add as ◌+◌, mul as ◌*◌, neg as -◌, sign}
@@ -34,38 +34,38 @@ module _ {R : Type 0} (f : RealClosedField R) where
   infix 80 -◌
   -- The operations do to values what they are named after, and a term that is a modest polynomial has that polynomial's value.
   pub record ValueLaws : Type 0 where
-    pub value-is_zero : (e : List R) (p : Poly) → T (is_zero p) → value f p e ≡ 𝟘
-    pub value-constant : (e : List R) (z : ℤ) → value f (constant (length e) z) e ≡ integer f z
-    pub value-variable : (e : List R) (i : ℕ) → value f (variable (length e) i) e ≡ lookup f e i
-    pub value-sum : (e : List R) (p q : Poly) → Depth (length e) p → Depth (length e) q → value f (sum (length e) p q) e ≡ value f p e + value f q e
-    pub value-product : (e : List R) (p q : Poly) → Depth (length e) p → Depth (length e) q → value f (product (length e) p q) e ≡ value f p e * value f q e
-    pub value-negative : (e : List R) (p : Poly) → Depth (length e) p → value f (negative (length e) p) e ≡ - value f p e
-    pub value-term : (e : List R) (t : Term) (p : Poly) → term_poly (length e) t ≡ Fine p → Depth (length e) p × (value f p e ≡ term_value f e t)
+    pub value_is_zero : (e : List R) (p : Poly) → T (is_zero p) → value f p e ≡ 𝟘
+    pub value_constant : (e : List R) (z : ℤ) → value f (constant (length e) z) e ≡ integer f z
+    pub value_variable : (e : List R) (i : ℕ) → value f (variable (length e) i) e ≡ lookup f e i
+    pub value_sum : (e : List R) (p q : Poly) → Depth (length e) p → Depth (length e) q → value f (sum (length e) p q) e ≡ value f p e + value f q e
+    pub value_product : (e : List R) (p q : Poly) → Depth (length e) p → Depth (length e) q → value f (product (length e) p q) e ≡ value f p e * value f q e
+    pub value_negative : (e : List R) (p : Poly) → Depth (length e) p → value f (negative (length e) p) e ≡ - value f p e
+    pub value_term : (e : List R) (t : Term) (p : Poly) → term_poly (length e) t ≡ Fine p → Depth (length e) p × (value f p e ≡ term_value f e t)
 
   -- Polynomials that are found the same have the same value, and a number has its sign.
   pub record EqualityLaws : Type 0 where
     pub value_same : (e : List R) (p q : Poly) → Depth (length e) p → Depth (length e) q → T (same (length e) p q) → value f p e ≡ value f q e
-    pub value-same-negative : (e : List R) (p q : Poly) → Depth (length e) p → Depth (length e) q → T (same (length e) (negative (length e) p) q) → value f q e ≡ - value f p e
-    pub sign-number : (p : Poly) → Depth 0 p → sign (value f p []) ≡ sign_of (the_number p)
+    pub value_same_negative : (e : List R) (p q : Poly) → Depth (length e) p → Depth (length e) q → T (same (length e) (negative (length e) p) q) → value f q e ≡ - value f p e
+    pub sign_number : (p : Poly) → Depth 0 p → sign (value f p []) ≡ sign_of (the_number p)
 
   -- A polynomial in its first variable x: it is given by its coefficients, the last of which is the leading one.
   pub record LeadingLaws : Type 0 where
-    pub value-horner : (e : List R) (x : R) (p : Poly) → Depth (suc (length e)) p → value f p (x ∷ e) ≡ value_of f (coefficients_at f e p) x
-    pub last-leading : (e : List R) (p : Poly) → last_or 𝟘 (coefficients_at f e p) ≡ value f (leading (length e) p) e
-    pub value-without_leading : (e : List R) (x : R) (p : Poly) → Depth (suc (length e)) p → value f (leading (length e) p) e ≡ 𝟘 → value f p (x ∷ e) ≡ value f (without_leading p) (x ∷ e)
-    pub value-degree-zero : (e : List R) (x : R) (p : Poly) → Depth (suc (length e)) p → degree p ≡ 0 → value f p (x ∷ e) ≡ value f (leading (length e) p) e
+    pub value_horner : (e : List R) (x : R) (p : Poly) → Depth (suc (length e)) p → value f p (x ∷ e) ≡ value_of f (coefficients_at f e p) x
+    pub last_leading : (e : List R) (p : Poly) → last_or 𝟘 (coefficients_at f e p) ≡ value f (leading (length e) p) e
+    pub value_without_leading : (e : List R) (x : R) (p : Poly) → Depth (suc (length e)) p → value f (leading (length e) p) e ≡ 𝟘 → value f p (x ∷ e) ≡ value f (without_leading p) (x ∷ e)
+    pub value_degree_zero : (e : List R) (x : R) (p : Poly) → Depth (suc (length e)) p → degree p ≡ 0 → value f p (x ∷ e) ≡ value f (leading (length e) p) e
 
   -- The derivative is the slope, and where p's leading coefficient isn't zero the derivative's has its sign.
   pub record DerivativeLaws : Type 0 where
-    pub value-derivative : (e : List R) (x : R) (p : Poly) → Depth (suc (length e)) p → value f (derivative (length e) p) (x ∷ e) ≡ slope f (coefficients_at f e p) x
-    pub sign-leading-derivative : (e : List R) (p : Poly) → Depth (suc (length e)) p → 1 ≤ degree p → NotZero (sign (value f (leading (length e) p) e)) →
+    pub value_derivative : (e : List R) (x : R) (p : Poly) → Depth (suc (length e)) p → value f (derivative (length e) p) (x ∷ e) ≡ slope f (coefficients_at f e p) x
+    pub sign_leading_derivative : (e : List R) (p : Poly) → Depth (suc (length e)) p → 1 ≤ degree p → NotZero (sign (value f (leading (length e) p) e)) →
         sign (value f (leading (length e) (derivative (length e) p)) e) ≡ sign (value f (leading (length e) p) e)
 
   -- A step of the division of s by p takes a multiple of p from a multiple of s. The remainder has the sign of s wherever p is zero.
   pub record RemainderLaws : Type 0 where
-    pub value-division_step : (e : List R) (x : R) (p s : Poly) → Depth (suc (length e)) p → Depth (suc (length e)) s →
+    pub value_division_step : (e : List R) (x : R) (p s : Poly) → Depth (suc (length e)) p → Depth (suc (length e)) s →
         value f (division_step (length e) p s) (x ∷ e) ≡
         value f (leading (length e) p) e * value f s (x ∷ e) + - (value f (leading (length e) s) e * (power f x (length (coefs s) - length (coefs p)) * value f p (x ∷ e)))
-    pub remainder-sign : (e : List R) (x : R) (h : Sign) (p s r : Poly) → Depth (suc (length e)) p → Depth (suc (length e)) s → NotZero h →
+    pub remainder_sign : (e : List R) (x : R) (h : Sign) (p s r : Poly) → Depth (suc (length e)) p → Depth (suc (length e)) s → NotZero h →
         sign (value f (leading (length e) p) e) ≡ h → remainder (length e) h p s ≡ Fine r →
         value f p (x ∷ e) ≡ 𝟘 → sign (value f r (x ∷ e)) ≡ sign (value f s (x ∷ e))

@@ -18,7 +18,7 @@ use Rattle.question.specs.declared.tree.Question.{Question}
 use Rattle.question.specs.Nodes.{node_at}
 use Rattle.question.specs.Denote.{Earlier, IsTree}
 use Rattle.question.specs.Collect.{has_name, named_by, AllNamed, Apart, Notes, Collected, Collects}
-use Rattle.question.proofs.Denote.{small-of-small}
+use Rattle.question.proofs.Denote.{small_of_small}
 
 holds : (b : Bool) → T b → b ≡ true
 holds true t = refl
@@ -39,19 +39,19 @@ or_swap false true = refl
 or_swap false false = refl
 
 -- the name at i, and those after it
-name-at : (k : ℕ) (zs : List ℤ) (i : ℕ) → i < length zs → has_name k (drop i zs) ≡ (eqb (small_of (get_or zs i (pos 0))) k || has_name k (drop (i + 1) zs))
-name-at k zs i h = rw (add-one, drop-cons zs i (pos 0))
+name_at : (k : ℕ) (zs : List ℤ) (i : ℕ) → i < length zs → has_name k (drop i zs) ≡ (eqb (small_of (get_or zs i (pos 0))) k || has_name k (drop (i + 1) zs))
+name_at k zs i h = rw (add-one, drop-cons zs i (pos 0))
 
-pub name-found : (k : ℕ) (zs : List ℤ) (i : ℕ) → i < length zs → small_of (get_or zs i (pos 0)) ≡ k → has_name k (drop i zs) ≡ true
-name-found k zs i h e =
-    let hit : eqb (small_of (get_or zs i (pos 0))) k ≡ true = grind (arith, nat_tests) in name-at k zs i h ∙ ap (λ b. b || has_name k (drop (i + 1) zs)) hit
+pub name_found : (k : ℕ) (zs : List ℤ) (i : ℕ) → i < length zs → small_of (get_or zs i (pos 0)) ≡ k → has_name k (drop i zs) ≡ true
+name_found k zs i h e =
+    let hit : eqb (small_of (get_or zs i (pos 0))) k ≡ true = grind (arith, nat_tests) in name_at k zs i h ∙ ap (λ b. b || has_name k (drop (i + 1) zs)) hit
 
-pub name-passed : (k : ℕ) (zs : List ℤ) (i : ℕ) → i < length zs → (small_of (get_or zs i (pos 0)) ≡ k → ⊥) → has_name k (drop i zs) ≡ has_name k (drop (i + 1) zs)
-name-passed k zs i h n =
-    let missed : eqb (small_of (get_or zs i (pos 0))) k ≡ false = grind (arith, nat_tests) in name-at k zs i h ∙ ap (λ b. b || has_name k (drop (i + 1) zs)) missed
+pub name_passed : (k : ℕ) (zs : List ℤ) (i : ℕ) → i < length zs → (small_of (get_or zs i (pos 0)) ≡ k → ⊥) → has_name k (drop i zs) ≡ has_name k (drop (i + 1) zs)
+name_passed k zs i h n =
+    let missed : eqb (small_of (get_or zs i (pos 0))) k ≡ false = grind (arith, nat_tests) in name_at k zs i h ∙ ap (λ b. b || has_name k (drop (i + 1) zs)) missed
 
-pub name-ended : (k : ℕ) (zs : List ℤ) (i : ℕ) → length zs ≤ i → has_name k (drop i zs) ≡ false
-name-ended k zs i h = ap (has_name k) (drop_all i zs h)
+pub name_ended : (k : ℕ) (zs : List ℤ) (i : ℕ) → length zs ≤ i → has_name k (drop i zs) ≡ false
+name_ended k zs i h = ap (has_name k) (drop_all i zs h)
 
 -- a polynomial is among those named just where its name is
 module _ (n : ℕ) (ps : List Poly) (apart : Apart n ps) (k : ℕ) (known : k < length ps) (small : k < 65536) where
@@ -109,13 +109,13 @@ one-longer false p rs = omega arith
 module _ (n : ℕ) (ps : List Poly) (apart : Apart n ps) (k : ℕ) (known : k < length ps) (small : k < 65536) (zs : List ℤ) (all : AllNamed ps zs) where
   named_more : named_by ps (zs ++ (pos k ∷ [])) ≡ (get_or ps k End ∷ named_by ps zs)
   named_more =
-      ap (map (λ y. get_or ps (small_of y) End)) (reverse-append zs (pos k ∷ [])) ∙ ap (λ j. get_or ps j End ∷ named_by ps zs) (small-of-small k small)
+      ap (map (λ y. get_or ps (small_of y) End)) (reverse-append zs (pos k ∷ [])) ∙ ap (λ j. get_or ps j End ∷ named_by ps zs) (small_of_small k small)
 
   all_more : AllNamed ps (zs ++ (pos k ∷ []))
   all_more = more zs all
     where
       more : (ys : List ℤ) → AllNamed ps ys → AllNamed ps (ys ++ (pos k ∷ []))
-      more [] a = (subst (λ j. j < length ps) (sym (small-of-small k small)) known, tt)
+      more [] a = (subst (λ j. j < length ps) (sym (small_of_small k small)) known, tt)
       more (y ∷ ys) a = (a.0, more ys a.1)
 
   pub noted : (r : Result (Unit {0}) Full) (room : ℕ) (after : List ℤ) → Notes r k zs room after →
@@ -135,19 +135,19 @@ module _ (n : ℕ) (ps : List Poly) (apart : Apart n ps) (k : ℕ) (known : k < 
 
 -- a tree's polynomials: those above, then those at, then those below, then its own
 module _ (cells : List ℤ) (limit : ℕ) (t : Tree) (before : List ℤ) (room : ℕ) where
-  pub collects-none : ((i : ℕ) → t ≡ Numbered i → ⊥) → Collects {E = Full} cells limit t before (Ok tt) before room
+  pub collects_none : ((i : ℕ) → t ≡ Numbered i → ⊥) → Collects {E = Full} cells limit t before (Ok tt) before room
   unfolding IsTree asked
-  collects-none none n ps sign.Yes apart all h l = (refl, all)
-  collects-none none n ps sign.No apart all h l = (refl, all)
-  collects-none none n ps sign.GivenUp apart all h l = (refl, all)
-  collects-none none n ps (sign.Ask p a b c) apart all h l = absurd (none h.place h.is)
+  collects_none none n ps sign.Yes apart all h l = (refl, all)
+  collects_none none n ps sign.No apart all h l = (refl, all)
+  collects_none none n ps sign.GivenUp apart all h l = (refl, all)
+  collects_none none n ps (sign.Ask p a b c) apart all h l = absurd (none h.place h.is)
 
-  pub collects-beyond : (i len : ℕ) → t ≡ Numbered i → length cells ≤ 5 * len → min limit len ≤ i → Collects {E = Full} cells limit t before (Ok tt) before room
+  pub collects_beyond : (i len : ℕ) → t ≡ Numbered i → length cells ≤ 5 * len → min limit len ≤ i → Collects {E = Full} cells limit t before (Ok tt) before room
   unfolding IsTree asked
-  collects-beyond i len e long o n ps sign.Yes apart all h l = (refl, all)
-  collects-beyond i len e long o n ps sign.No apart all h l = (refl, all)
-  collects-beyond i len e long o n ps sign.GivenUp apart all h l = (refl, all)
-  collects-beyond i len e long o n ps (sign.Ask p a b c) apart all h l =
+  collects_beyond i len e long o n ps sign.Yes apart all h l = (refl, all)
+  collects_beyond i len e long o n ps sign.No apart all h l = (refl, all)
+  collects_beyond i len e long o n ps sign.GivenUp apart all h l = (refl, all)
+  collects_beyond i len e long o n ps (sign.Ask p a b c) apart all h l =
       let is = h.is in
       let same : h.place ≡ i = cc in
       let first : i < limit = subst (Earlier limit) e l in
@@ -181,7 +181,7 @@ module _ (cells : List ℤ) (limit : ℕ) (t : Tree) (before : List ℤ) (room :
     opened P ps (sign.Ask p a b c) h k =
         let there = h.is in
         let same : h.place ≡ i = cc in
-        moved h.place same h.about h.named h.below h.at h.above h.below-earlier h.at-earlier h.above_earlier
+        moved h.place same h.about h.named h.below h.at h.above h.below_earlier h.at_earlier h.above_earlier
       where
         moved : (j : ℕ) → j ≡ i → get_or ps (node_at cells j).polynomial End ≡ p → (node_at cells j).polynomial < length ps →
             IsTree ps cells a (node_at cells j).below → IsTree ps cells b (node_at cells j).at → IsTree ps cells c (node_at cells j).above →
@@ -191,15 +191,15 @@ module _ (cells : List ℤ) (limit : ℕ) (t : Tree) (before : List ℤ) (room :
             IsTree ps cells a (node_at cells m).below → IsTree ps cells b (node_at cells m).at → IsTree ps cells c (node_at cells m).above →
             Earlier m (node_at cells m).below → Earlier m (node_at cells m).at → Earlier m (node_at cells m).above → P (sign.Ask p a b c)) (sym e) (k p a b c)
 
-    pub refused-above : (after : List ℤ) (x : Full) → Collects cells i q.above before (Err x) after room → (later : List ℤ) → Collects {E = Full} cells limit t before (Err x) later room
-    refused-above after x f later n ps s apart all h l =
+    pub refused_above : (after : List ℤ) (x : Full) → Collects cells i q.above before (Err x) after room → (later : List ℤ) → Collects {E = Full} cells limit t before (Err x) later room
+    refused_above after x f later n ps s apart all h l =
         opened (λ u. room < length (asked n u (named_by ps before))) ps s h (λ p a b c about known ha hb hc la lb lc.
         let bound = asked-parts n p a b c (named_by ps before) in
         let full : room < length (asked n c (named_by ps before)) = f n ps c apart all hc lc in omega arith)
 
     module _ (above : List ℤ) (done-above : Collects {E = Full} cells i q.above before (Ok tt) above room) where
-      pub refused-at : (after : List ℤ) (x : Full) → Collects cells i q.at above (Err x) after room → (later : List ℤ) → Collects {E = Full} cells limit t before (Err x) later room
-      refused-at after x f later n ps s apart all h l =
+      pub refused_at : (after : List ℤ) (x : Full) → Collects cells i q.at above (Err x) after room → (later : List ℤ) → Collects {E = Full} cells limit t before (Err x) later room
+      refused_at after x f later n ps s apart all h l =
           opened (λ u. room < length (asked n u (named_by ps before))) ps s h (λ p a b c about known ha hb hc la lb lc.
           let bound = asked-parts n p a b c (named_by ps before) in
           let first = done-above n ps c apart all hc lc in
@@ -207,8 +207,8 @@ module _ (cells : List ℤ) (limit : ℕ) (t : Tree) (before : List ℤ) (room :
           subst (λ qs. room < length (asked n b qs)) first.0 (f n ps b apart first.1 hb lb) in omega arith)
 
       module _ (at : List ℤ) (done_at : Collects {E = Full} cells i q.at above (Ok tt) at room) where
-        pub refused-below : (after : List ℤ) (x : Full) → Collects cells i q.below at (Err x) after room → (later : List ℤ) → Collects {E = Full} cells limit t before (Err x) later room
-        refused-below after x f later n ps s apart all h l =
+        pub refused_below : (after : List ℤ) (x : Full) → Collects cells i q.below at (Err x) after room → (later : List ℤ) → Collects {E = Full} cells limit t before (Err x) later room
+        refused_below after x f later n ps s apart all h l =
             opened (λ u. room < length (asked n u (named_by ps before))) ps s h (λ p a b c about known ha hb hc la lb lc.
             let bound = asked-parts n p a b c (named_by ps before) in
             let first = done-above n ps c apart all hc lc in
@@ -216,10 +216,10 @@ module _ (cells : List ℤ) (limit : ℕ) (t : Tree) (before : List ℤ) (room :
             let full : room < length (asked n a (asked n b (asked n c (named_by ps before)))) =
             subst (λ qs. room < length (asked n a qs)) (second.0 ∙ ap (asked n b) first.0) (f n ps a apart second.1 ha la) in omega arith)
 
-        pub collects-question : (below : List ℤ) → Collects {E = Full} cells i q.below at (Ok tt) below room →
+        pub collects_question : (below : List ℤ) → Collects {E = Full} cells i q.below at (Ok tt) below room →
             (r : Result (Unit {0}) Full) (after : List ℤ) → Notes r q.polynomial below room after → Collects cells limit t before r after room
         unfolding asked
-        collects-question below Done-below r after notes n ps s apart all h l =
+        collects_question below Done-below r after notes n ps s apart all h l =
             opened (λ u. Collected r n ps (asked n u (named_by ps before)) after room) ps s h (λ p a b c about known ha hb hc la lb lc.
             let first = done-above n ps c apart all hc lc in
             let second = done_at n ps b apart first.1 hb lb in

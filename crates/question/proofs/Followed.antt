@@ -11,12 +11,12 @@ use Rattle.question.specs.Denote.{Earlier, IsTree}
 use Rattle.question.specs.Follow.{answer_by, answer_tree, Follows}
 
 module _ (cells : List ℤ) (limit : ℕ) (t : Tree) (signs : List Sign) where
-  pub follows-yes : t ≡ Yes → Follows cells limit t signs Answer.Yes
+  pub follows_yes : t ≡ Yes → Follows cells limit t signs Answer.Yes
   unfolding IsTree answer_by
-  follows-yes e ps sg sign.Yes h l m = refl
-  follows-yes e ps sg sign.No h l m = let z : ◌≡◌ {A = ℕ} 0 1 = cc in absurd (omega arith)
-  follows-yes e ps sg sign.GivenUp h l m = let z : ◌≡◌ {A = ℕ} 0 1 = cc in absurd (omega arith)
-  follows-yes e ps sg (sign.Ask p a b c) h l m = let i = h.is in let z : ◌≡◌ {A = ℕ} 0 1 = cc in absurd (omega arith)
+  follows_yes e ps sg sign.Yes h l m = refl
+  follows_yes e ps sg sign.No h l m = let z : ◌≡◌ {A = ℕ} 0 1 = cc in absurd (omega arith)
+  follows_yes e ps sg sign.GivenUp h l m = let z : ◌≡◌ {A = ℕ} 0 1 = cc in absurd (omega arith)
+  follows_yes e ps sg (sign.Ask p a b c) h l m = let i = h.is in let z : ◌≡◌ {A = ℕ} 0 1 = cc in absurd (omega arith)
 
   pub follows_no : t ≡ No → Follows cells limit t signs Answer.No
   unfolding IsTree answer_by
@@ -25,32 +25,32 @@ module _ (cells : List ℤ) (limit : ℕ) (t : Tree) (signs : List Sign) where
   follows_no e ps sg sign.GivenUp h l m = let z : ◌≡◌ {A = ℕ} 0 1 = cc in absurd (omega arith)
   follows_no e ps sg (sign.Ask p a b c) h l m = let i = h.is in let z : ◌≡◌ {A = ℕ} 0 1 = cc in absurd (omega arith)
 
-  pub follows-given-up : t ≡ GivenUp → Follows cells limit t signs Answer.GivenUp
+  pub follows_given_up : t ≡ GivenUp → Follows cells limit t signs Answer.GivenUp
   unfolding IsTree answer_by
-  follows-given-up e ps sg sign.Yes h l m = let z : ◌≡◌ {A = ℕ} 0 1 = cc in absurd (omega arith)
-  follows-given-up e ps sg sign.No h l m = let z : ◌≡◌ {A = ℕ} 0 1 = cc in absurd (omega arith)
-  follows-given-up e ps sg sign.GivenUp h l m = refl
-  follows-given-up e ps sg (sign.Ask p a b c) h l m = let i = h.is in let z : ◌≡◌ {A = ℕ} 0 1 = cc in absurd (omega arith)
+  follows_given_up e ps sg sign.Yes h l m = let z : ◌≡◌ {A = ℕ} 0 1 = cc in absurd (omega arith)
+  follows_given_up e ps sg sign.No h l m = let z : ◌≡◌ {A = ℕ} 0 1 = cc in absurd (omega arith)
+  follows_given_up e ps sg sign.GivenUp h l m = refl
+  follows_given_up e ps sg (sign.Ask p a b c) h l m = let i = h.is in let z : ◌≡◌ {A = ℕ} 0 1 = cc in absurd (omega arith)
 
   -- a question that was never asked, or not before the limit, is no tree
-  pub follows-beyond : (i len : ℕ) → t ≡ Numbered i → length cells ≤ 5 * len → min limit len ≤ i → (r : Answer) → Follows cells limit t signs r
+  pub follows_beyond : (i len : ℕ) → t ≡ Numbered i → length cells ≤ 5 * len → min limit len ≤ i → (r : Answer) → Follows cells limit t signs r
   unfolding IsTree
-  follows-beyond i len e long o r ps sg sign.Yes h l m = let z : ◌≡◌ {A = ℕ} 0 1 = cc in absurd (omega arith)
-  follows-beyond i len e long o r ps sg sign.No h l m = let z : ◌≡◌ {A = ℕ} 0 1 = cc in absurd (omega arith)
-  follows-beyond i len e long o r ps sg sign.GivenUp h l m = let z : ◌≡◌ {A = ℕ} 0 1 = cc in absurd (omega arith)
-  follows-beyond i len e long o r ps sg (sign.Ask p a b c) h l m =
+  follows_beyond i len e long o r ps sg sign.Yes h l m = let z : ◌≡◌ {A = ℕ} 0 1 = cc in absurd (omega arith)
+  follows_beyond i len e long o r ps sg sign.No h l m = let z : ◌≡◌ {A = ℕ} 0 1 = cc in absurd (omega arith)
+  follows_beyond i len e long o r ps sg sign.GivenUp h l m = let z : ◌≡◌ {A = ℕ} 0 1 = cc in absurd (omega arith)
+  follows_beyond i len e long o r ps sg (sign.Ask p a b c) h l m =
       let is = h.is in
       let same : h.place ≡ i = cc in
       let before : i < limit = subst (Earlier limit) e l in
       let inside : 5 * h.place + 5 ≤ length cells = h.inside in absurd (omega arith)
 
-  pub follows-question : (i : ℕ) → t ≡ Numbered i → (s : Sign) → s ≡ get_or signs (node_at cells i).polynomial Zero → (r : Answer) →
+  pub follows_question : (i : ℕ) → t ≡ Numbered i → (s : Sign) → s ≡ get_or signs (node_at cells i).polynomial Zero → (r : Answer) →
       Follows cells i (chosen (node_at cells i) s) signs r → Follows cells limit t signs r
   unfolding IsTree answer_by
-  follows-question i e s at r f ps sg sign.Yes h l m = let z : ◌≡◌ {A = ℕ} 0 1 = cc in absurd (omega arith)
-  follows-question i e s at r f ps sg sign.No h l m = let z : ◌≡◌ {A = ℕ} 0 1 = cc in absurd (omega arith)
-  follows-question i e s at r f ps sg sign.GivenUp h l m = let z : ◌≡◌ {A = ℕ} 0 1 = cc in absurd (omega arith)
-  follows-question i e s at r f ps sg (sign.Ask p a b c) h l m =
+  follows_question i e s at r f ps sg sign.Yes h l m = let z : ◌≡◌ {A = ℕ} 0 1 = cc in absurd (omega arith)
+  follows_question i e s at r f ps sg sign.No h l m = let z : ◌≡◌ {A = ℕ} 0 1 = cc in absurd (omega arith)
+  follows_question i e s at r f ps sg sign.GivenUp h l m = let z : ◌≡◌ {A = ℕ} 0 1 = cc in absurd (omega arith)
+  follows_question i e s at r f ps sg (sign.Ask p a b c) h l m =
       let is = h.is in
       let same : h.place ≡ i = cc in
       let j = h.place in
@@ -61,6 +61,6 @@ module _ (cells : List ℤ) (limit : ℕ) (t : Tree) (signs : List Sign) where
     where
       led : (u : Sign) → Follows cells h.place (chosen (node_at cells h.place) u) signs r →
           answer_tree r ≡ sign.by_sign u (answer_by sg a) (answer_by sg b) (answer_by sg c)
-      led Neg g = g ps sg a h.below h.below-earlier m
-      led Zero g = g ps sg b h.at h.at-earlier m
+      led Neg g = g ps sg a h.below h.below_earlier m
+      led Zero g = g ps sg b h.at h.at_earlier m
       led Pos g = g ps sg c h.above h.above_earlier m

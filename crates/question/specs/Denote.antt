@@ -22,8 +22,8 @@ pub record IsQuestion (ps : List Poly) (cells : List ℤ) (p : Poly) (total : �
   pub named : (node_at cells place).polynomial < length ps
   pub about : slice_index_or ps (node_at cells place).polynomial End ≡ p
   pub weighs : (node_at cells place).weight ≡ capped total
-  pub below-earlier : Earlier place (node_at cells place).below
-  pub at-earlier : Earlier place (node_at cells place).at
+  pub below_earlier : Earlier place (node_at cells place).below
+  pub at_earlier : Earlier place (node_at cells place).at
   pub above_earlier : Earlier place (node_at cells place).above
   pub below : A (node_at cells place).below
   pub at : B (node_at cells place).at

@@ -22,17 +22,17 @@ module _ {R : Type 0} (f : RealClosedField R) where
   unfolding horner
   value_none x = refl
 
-  pub value-cons : (c : R) (cs : List R) (x : R) → value f (c ∷ cs) x ≡ c + x * value f cs x
+  pub value_cons : (c : R) (cs : List R) (x : R) → value f (c ∷ cs) x ≡ c + x * value f cs x
   unfolding horner
-  value-cons c cs x = refl
+  value_cons c cs x = refl
 
-  pub slope-none : (x : R) → slope f [] x ≡ 𝟘
+  pub slope_none : (x : R) → slope f [] x ≡ 𝟘
   unfolding slope
-  slope-none x = refl
+  slope_none x = refl
 
-  pub slope-cons : (c : R) (cs : List R) (x : R) → slope f (c ∷ cs) x ≡ value f cs x + x * slope f cs x
+  pub slope_cons : (c : R) (cs : List R) (x : R) → slope f (c ∷ cs) x ≡ value f cs x + x * slope f cs x
   unfolding slope
-  slope-cons c cs x = refl
+  slope_cons c cs x = refl
 
   pub quotient-shorter : (n : ℕ) (a : R) (cs : List R) → length cs ≤ suc n → length (quotient f a cs) ≤ n
   unfolding quotient length

@@ -113,16 +113,16 @@ Inhabited {R} f = (e : Sign) (l r : End R) → Ordered f e l r → (x : R) × In
 
 pub record Analysis {R : Type 0} (f : RealClosedField R) : Type 0 where
   pub divides : Divides f
-  pub first-root : FirstRoot f
+  pub first_root : FirstRoot f
   pub monotone : Monotone f
-  pub monotone-inside : MonotoneInside f
+  pub monotone_inside : MonotoneInside f
   pub steady : Steady f
   pub splits : Splits f
-  pub ends-apart : EndsApart f
-  pub constant-or-passes : ConstantOrPasses f
-  pub far-out : FarOut f
+  pub ends_apart : EndsApart f
+  pub constant_or_passes : ConstantOrPasses f
+  pub far_out : FarOut f
   pub no_jump : NoJump f
-  pub zero-everywhere : ZeroEverywhere f
-  pub not-zero-somewhere : NotZeroSomewhere f
+  pub zero_everywhere : ZeroEverywhere f
+  pub not_zero_somewhere : NotZeroSomewhere f
   pub turns : Turns f
   pub inhabited : Inhabited f

@@ -6,7 +6,7 @@ use Rattle.field.specs.declared.sign.Sign.{Sign}
 use Rattle.stream.specs.Stage.{Outcome, Gap, Went, upon, outermost_rows}
 use Rattle.stream.specs.Step.{Cell as TableCell}
 use Rattle.stream.specs.Chain.{State, pushed_all, pushed, closed, fresh}
-use Rattle.stream.proofs.Chain.{run-resumes}
+use Rattle.stream.proofs.Chain.{run_resumes}
 use Rattle.row_stream.specs.declared.stage.Stage.{Stage}
 use Rattle.row_stream.specs.declared.cell.Cell.{Cell}
 use Rattle.row_stream.specs.declared.leaving.Entry.{Entry}
@@ -25,32 +25,32 @@ rest_put [] ys h = absurd (omega arith)
 rest_put (x ∷ xs) ys h = ap (λ zs. take (length zs - 1) (drop 1 zs)) (put_rest x xs ys) ∙ rest_of x ys
 
 module _ {A : Type 0} (grow : A → List Sign → A) where
-  pub no-table-closed : (stages : List Stage) (cs : List TableCell) (a : A) → length stages ≡ 0 → closed grow (stages_of stages) cs a ≡ Went a
+  pub no_table_closed : (stages : List Stage) (cs : List TableCell) (a : A) → length stages ≡ 0 → closed grow (stages_of stages) cs a ≡ Went a
   unfolding closed map
-  no-table-closed [] cs a h = refl
-  no-table-closed (s ∷ stages) cs a h = absurd (omega arith)
+  no_table_closed [] cs a h = refl
+  no_table_closed (s ∷ stages) cs a h = absurd (omega arith)
 
-  pub end-gap : (stages : List Stage) (cells : List Cell) (e : Cell) (a : A) (r : Taken) → (length stages ≡ 0 → ⊥) → length stages ≤ length cells →
+  pub end_gap : (stages : List Stage) (cells : List Cell) (e : Cell) (a : A) (r : Taken) → (length stages ≡ 0 → ⊥) → length stages ≤ length cells →
       EndTakenAs (get_or cells 0 e) r → r.leaving ≡ None → closed grow (stages_of stages) (cells_of cells) a ≡ Gap
   unfolding closed map
-  end-gap [] cells e a r h l s n = absurd (h refl)
-  end-gap (f ∷ stages) [] e a r h l s n = absurd (omega arith)
-  end-gap (f ∷ stages) (c ∷ cells) e a r h l s n =
+  end_gap [] cells e a r h l s n = absurd (h refl)
+  end_gap (f ∷ stages) [] e a r h l s n = absurd (omega arith)
+  end_gap (f ∷ stages) (c ∷ cells) e a r h l s n =
       let o = signs_of r.held in
       ap (λ z. upon z (λ out. upon (pushed_all (pushed grow (stages_of stages)) (cells_of cells) a out) (λ t. closed grow (stages_of stages) t.cells t.sink)))
       (s (stage_of f) ∙ ap (λ q. upon (leaving_of q) (λ us. Went (entry_rows (stage_of f) o o us))) n)
 
   -- G: what giving the last rows came to
-  pub end-given : (stages : List Stage) (cells : List Cell) (d : Stage) (e : Cell) (a : A) (r : Taken) (l : Leaving) (es : List Entry) (o : List Sign) (G : Outcome (State A)) (R : Outcome A) →
+  pub end_given : (stages : List Stage) (cells : List Cell) (d : Stage) (e : Cell) (a : A) (r : Taken) (l : Leaving) (es : List Entry) (o : List Sign) (G : Outcome (State A)) (R : Outcome A) →
       (length stages ≡ 0 → ⊥) → length stages ≤ length cells → EndTakenAs (get_or cells 0 e) r → r.leaving ≡ Some l → es ≡ entries_of l → o ≡ signs_of r.held →
       (let rest = take (length stages - 1) (drop 1 stages) in
       pushed_all (pushed grow (stages_of rest)) (cells_of (take (length cells - 1) (drop 1 cells))) a (entry_rows (stage_of (get_or stages 0 d)) o o es) ≡ G →
       upon G (λ t. closed grow (stages_of rest) t.cells t.sink) ≡ R →
       closed grow (stages_of stages) (cells_of cells) a ≡ R)
   unfolding closed map
-  end-given [] cells d e a r l es o G R h le s n he ho given k = absurd (h refl)
-  end-given (f ∷ stages) [] d e a r l es o G R h le s n he ho given k = absurd (omega arith)
-  end-given (f ∷ stages) (c ∷ cells) d e a r l es o G R h le s n he ho given k =
+  end_given [] cells d e a r l es o G R h le s n he ho given k = absurd (h refl)
+  end_given (f ∷ stages) [] d e a r l es o G R h le s n he ho given k = absurd (omega arith)
+  end_given (f ∷ stages) (c ∷ cells) d e a r l es o G R h le s n he ho given k =
       let F = stage_of f in
       let held = signs_of r.held in
       ap (λ z. upon z (λ out. upon (pushed_all (pushed grow (stages_of stages)) (cells_of cells) a out) (λ t. closed grow (stages_of stages) t.cells t.sink)))
@@ -78,22 +78,22 @@ module _ {A : Type 0} (grow : A → List Sign → A) where
       sym k
       ∙ ap (λ z. upon z (λ s. closed grow fs s.cells s.sink)) (sym given)
       ∙ ap (λ cs. upon (pushed grow fs cs a row) (λ s. closed grow fs s.cells s.sink)) (ap cells_of e ∙ fresh_cells stages n h)
-      ∙ run-resumes grow fs a row
+      ∙ run_resumes grow fs a row
 
 replicate_more : {X : Type 0} (i : ℕ) (v : X) → replicate i v ++ v ∷ [] ≡ replicate (suc i) v
 replicate_more zero v = refl
 replicate_more {X} (suc i) v = ap {B = List X} (λ xs. v ∷ xs) (replicate_more i v)
 
 -- one more is empty
-pub empty-more : (cells : List Cell) (i : ℕ) → i < length cells → take i cells ≡ replicate i empty_cell → take (i + 1) (set cells i empty_cell) ≡ replicate (i + 1) empty_cell
-empty-more cells i h e =
+pub empty_more : (cells : List Cell) (i : ℕ) → i < length cells → take i cells ≡ replicate i empty_cell → take (i + 1) (set cells i empty_cell) ≡ replicate (i + 1) empty_cell
+empty_more cells i h e =
     ap (λ n. take n (set cells i empty_cell)) (add-one i)
     ∙ take-suc-set cells i empty_cell h
     ∙ ap (λ cs. cs ++ empty_cell ∷ []) e
     ∙ replicate_more i empty_cell
     ∙ ap (λ n. replicate n empty_cell) (sym (add-one i))
 
-pub all-empty : (cells : List Cell) (i n : ℕ) → n ≤ i → i ≤ n → length cells ≡ n → take i cells ≡ replicate i empty_cell → cells ≡ replicate n empty_cell
-all-empty cells i n h k l e =
+pub all_empty : (cells : List Cell) (i n : ℕ) → n ≤ i → i ≤ n → length cells ≡ n → take i cells ≡ replicate i empty_cell → cells ≡ replicate n empty_cell
+all_empty cells i n h k l e =
     let q : i ≡ n = omega arith in
     sym (take_all i cells (omega arith)) ∙ e ∙ ap (λ m. replicate m empty_cell) q

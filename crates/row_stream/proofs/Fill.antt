@@ -8,11 +8,11 @@ use Rattle.stream.specs.declared.slot.Slot.TheVariants.{Fixed, Open}
 use Rattle.stream.specs.Stage.{filled_by}
 use Rattle.row_stream.specs.Filling.{slot_sign, opens}
 
-filled-first : (x : Slot) (plan : List Slot) (r : List Sign) → filled_by (x ∷ plan) r ≡ slot_sign x (get_or r 0 Zero) ∷ filled_by plan (drop (opens x) r)
+filled_first : (x : Slot) (plan : List Slot) (r : List Sign) → filled_by (x ∷ plan) r ≡ slot_sign x (get_or r 0 Zero) ∷ filled_by plan (drop (opens x) r)
 unfolding filled_by
-filled-first (Fixed t) plan r = refl
-filled-first Open plan [] = refl
-filled-first Open plan (t ∷ r) = refl
+filled_first (Fixed t) plan r = refl
+filled_first Open plan [] = refl
+filled_first Open plan (t ∷ r) = refl
 
 -- i slots are filled, with j of the real ones' signs
 abbrev pub FilledTo : List Slot → List Sign → List Sign → ℕ → ℕ → Type 0
@@ -26,7 +26,7 @@ filled_more plan r signs i j e h k inv =
     let rest = filled_by (drop (i + 1) plan) (drop (j + opens x) r) in
     let next : filled_by (drop i plan) (drop j r) ≡ v ∷ rest =
     ap (λ p. filled_by p (drop j r)) (drop-cons plan i e h)
-    ∙ filled-first x (drop (suc i) plan) (drop j r)
+    ∙ filled_first x (drop (suc i) plan) (drop j r)
     ∙ ap (λ t. slot_sign x t ∷ filled_by (drop (suc i) plan) (drop (opens x) (drop j r))) (get_or-drop j r 0 Zero ∙ ap (λ n. get_or r n Zero) (add-zero j))
     ∙ ap (λ q. v ∷ filled_by (drop (suc i) plan) q) (drop-drop (opens x) j r)
     ∙ ap (λ n. v ∷ filled_by (drop n plan) (drop (j + opens x) r)) (sym (add-one i))
@@ -56,14 +56,14 @@ insert-below (suc place) s [] j d e h = absurd (omega arith)
 insert-below (suc place) s (t ∷ o) zero d e h = refl
 insert-below (suc place) s (t ∷ o) (suc j) d e h = insert-below place s o j d e (omega arith)
 
-pub insert-at : (place : ℕ) (s : Sign) (o : List Sign) (j : ℕ) (d : Sign) → j ≡ min place (length o) → get_or (insert_at place s o) j d ≡ s
+pub insert_at_lem : (place : ℕ) (s : Sign) (o : List Sign) (j : ℕ) (d : Sign) → j ≡ min place (length o) → get_or (insert_at place s o) j d ≡ s
 unfolding insert_at
-insert-at zero s o zero d h = refl
-insert-at zero s o (suc j) d h = absurd (omega arith)
-insert-at (suc place) s [] zero d h = refl
-insert-at (suc place) s [] (suc j) d h = absurd (omega arith)
-insert-at (suc place) s (t ∷ o) zero d h = absurd (omega arith)
-insert-at (suc place) s (t ∷ o) (suc j) d h = insert-at place s o j d (omega arith)
+insert_at_lem zero s o zero d h = refl
+insert_at_lem zero s o (suc j) d h = absurd (omega arith)
+insert_at_lem (suc place) s [] zero d h = refl
+insert_at_lem (suc place) s [] (suc j) d h = absurd (omega arith)
+insert_at_lem (suc place) s (t ∷ o) zero d h = absurd (omega arith)
+insert_at_lem (suc place) s (t ∷ o) (suc j) d h = insert_at_lem place s o j d (omega arith)
 
 pub insert-above : (place : ℕ) (s : Sign) (o : List Sign) (j : ℕ) (d : Sign) → min place (length o) < j → get_or (insert_at place s o) j d ≡ get_or o (j - 1) d
 unfolding insert_at
@@ -75,7 +75,7 @@ insert-above (suc place) s (t ∷ o) zero d h = absurd (omega arith)
 insert-above (suc place) s (t ∷ o) (suc j) d h =
     let e : suc (j - 1) ≡ suc j - 1 = omega arith in insert-above place s o j d (omega arith) ∙ ap (λ k. get_or (t ∷ o) k d) e
 
-pub any-default : (o : List Sign) (j : ℕ) (d e : Sign) → j < length o → get_or o j d ≡ get_or o j e
-any-default [] j d e h = absurd (omega arith)
-any-default (t ∷ o) zero d e h = refl
-any-default (t ∷ o) (suc j) d e h = any-default o j d e (omega arith)
+pub any_default : (o : List Sign) (j : ℕ) (d e : Sign) → j < length o → get_or o j d ≡ get_or o j e
+any_default [] j d e h = absurd (omega arith)
+any_default (t ∷ o) zero d e h = refl
+any_default (t ∷ o) (suc j) d e h = any_default o j d e (omega arith)

@@ -21,40 +21,40 @@ module _ (f : TableStage) (o : List Sign) where
   until_point_if b (Crosses s) p x = Went (handed_on f s o ∷ handed_on f Zero o ∷ cond b (handed_on f (flip s) o ∷ handed_on f (the_sign p) x ∷ []) [])
   until_point_if b Lost p x = cond b Gap (Went [])
 
-  until-point-if : (w : Way) (p : Known) (x : List Sign) → until_point f w o p x ≡ until_point_if (point_stays p x) w p x
+  until_point_if_lem : (w : Way) (p : Known) (x : List Sign) → until_point f w o p x ≡ until_point_if (point_stays p x) w p x
   unfolding until_point_if
-  until-point-if (Stays s) p x = refl
-  until-point-if (Crosses s) p x = refl
-  until-point-if Lost p x = refl
+  until_point_if_lem (Stays s) p x = refl
+  until_point_if_lem (Crosses s) p x = refl
+  until_point_if_lem Lost p x = refl
 
-  rows-if : (b : Bool) (w : Way) (p : Known) (x : List Sign) → until_point_if b w p x ≡ upon (entries_to_point w p b) (λ es. Went (entry_rows f o x es))
+  rows_if : (b : Bool) (w : Way) (p : Known) (x : List Sign) → until_point_if b w p x ≡ upon (entries_to_point w p b) (λ es. Went (entry_rows f o x es))
   unfolding until_point_if map
-  rows-if true (Stays s) p x = refl
-  rows-if true (Crosses s) p x = refl
-  rows-if true Lost p x = refl
-  rows-if false (Stays s) p x = refl
-  rows-if false (Crosses s) p x = refl
-  rows-if false Lost p x = refl
+  rows_if true (Stays s) p x = refl
+  rows_if true (Crosses s) p x = refl
+  rows_if true Lost p x = refl
+  rows_if false (Stays s) p x = refl
+  rows_if false (Crosses s) p x = refl
+  rows_if false Lost p x = refl
 
   -- L: what the code found to leave
-  pub point-rows : (side : TableSide) (p : Known) (x : List Sign) (L : Outcome (List Entry)) → L ≡ entries_to_point (way_between (left_end side o) p) p (point_stays p x) →
+  pub point_rows : (side : TableSide) (p : Known) (x : List Sign) (L : Outcome (List Entry)) → L ≡ entries_to_point (way_between (left_end side o) p) p (point_stays p x) →
       point_taken true f side o p x ≡ upon L (λ es. Went (record { cell = OnlySide (AfterPoint p); leaving = entry_rows f o x es }))
-  point-rows side p x L e =
+  point_rows side p x L e =
       let w = way_between (left_end side o) p in
-      ap (λ r. upon r (λ out. Went (record { cell = OnlySide (AfterPoint p); leaving = out }))) (until-point-if w p x ∙ rows-if (point_stays p x) w p x)
+      ap (λ r. upon r (λ out. Went (record { cell = OnlySide (AfterPoint p); leaving = out }))) (until_point_if_lem w p x ∙ rows_if (point_stays p x) w p x)
       ∙ upon-upon (entries_to_point w p (point_stays p x)) (λ es. Went (entry_rows f o x es)) (λ out. Went (record { cell = OnlySide (AfterPoint p); leaving = out }))
       ∙ ap (λ r. upon r (λ es. Went (record { cell = OnlySide (AfterPoint p); leaving = entry_rows f o x es }))) (sym e)
 
-  rows-at-end : (w : Way) → until_end f w o ≡ upon (entries_to_end w) (λ es. Went (entry_rows f o o es))
+  rows_at_end : (w : Way) → until_end f w o ≡ upon (entries_to_end w) (λ es. Went (entry_rows f o o es))
   unfolding map
-  rows-at-end (Stays s) = refl
-  rows-at-end (Crosses s) = refl
-  rows-at-end Lost = refl
+  rows_at_end (Stays s) = refl
+  rows_at_end (Crosses s) = refl
+  rows_at_end Lost = refl
 
-  pub end-rows : (side : TableSide) (L : Outcome (List Entry)) → L ≡ entries_to_end (way_between (left_end side o) (Is (first_sign o))) →
+  pub end_rows : (side : TableSide) (L : Outcome (List Entry)) → L ≡ entries_to_end (way_between (left_end side o) (Is (first_sign o))) →
       closing f (WithInterval side o) ≡ upon L (λ es. Went (entry_rows f o o es))
   unfolding closing
-  end-rows side L e = rows-at-end (way_between (left_end side o) (Is (first_sign o))) ∙ ap (λ r. upon r (λ es. Went (entry_rows f o o es))) (sym e)
+  end_rows side L e = rows_at_end (way_between (left_end side o) (Is (first_sign o))) ∙ ap (λ r. upon r (λ es. Went (entry_rows f o o es))) (sym e)
 
 module _ (f : TableStage) (side : TableSide) (row : List Sign) where
   -- an interval comes
@@ -64,19 +64,19 @@ module _ (f : TableStage) (side : TableSide) (row : List Sign) where
   interval-held o x es ho he = ap₂ (λ z ys. Went (record { cell = WithInterval side z; leaving = ys })) (sym ho) (ap (entry_rows f o x) (sym he))
 
   -- a point that goes
-  pub point-goes : (o z : List Sign) (es : List Entry) → z ≡ take f.divisors row → false ≡ any_zero z → es ≡ [] →
+  pub point_goes : (o z : List Sign) (es : List Entry) → z ≡ take f.divisors row → false ≡ any_zero z → es ≡ [] →
       stepped f (WithInterval side o) row ≡ Went (record { cell = OnlySide side; leaving = entry_rows f o (take f.divisors row) es })
   unfolding stepped map
-  point-goes o z es hz h he =
+  point_goes o z es hz h he =
       let x = take f.divisors row in
       ap (λ b. point_taken b f side o (at_root x (drop f.divisors row)) x) (sym (h ∙ ap any_zero hz))
       ∙ ap (λ ys. Went (record { cell = OnlySide side; leaving = ys })) (ap (entry_rows f o x) (sym he))
 
   -- a point that stays
-  pub point-stays : (o x y : List Sign) (p : Known) (R : List Sign → Outcome Stepped) → x ≡ take f.divisors row → y ≡ drop f.divisors row → p ≡ at_root x y → true ≡ any_zero x →
+  pub point_stays_lem : (o x y : List Sign) (p : Known) (R : List Sign → Outcome Stepped) → x ≡ take f.divisors row → y ≡ drop f.divisors row → p ≡ at_root x y → true ≡ any_zero x →
       point_taken true f side o p x ≡ R x → stepped f (WithInterval side o) row ≡ R (take f.divisors row)
   unfolding stepped
-  point-stays o x y p R hx hy hp h e =
+  point_stays_lem o x y p R hx hy hp h e =
       ap₂ (λ a b. point_taken (any_zero a) f side o (at_root a b) a) (sym hx) (sym hy)
       ∙ ap₂ (λ b q. point_taken b f side o q x) (sym h) (sym hp)
       ∙ e

@@ -34,22 +34,22 @@ kept_back true c cs b = refl
 kept_back false c cs b = refl
 
 module _ {A : Type 0} (push : List TableCell → A → List Sign → Outcome (State A)) (f : TableStage) (o x : List Sign) where
-  pub none-given : (cs : List TableCell) (a : A) (es : List Entry) → length es ≡ 0 → pushed_all push cs a (entry_rows f o x es) ≡ Went (record { cells = cs; sink = a })
+  pub none_given : (cs : List TableCell) (a : A) (es : List Entry) → length es ≡ 0 → pushed_all push cs a (entry_rows f o x es) ≡ Went (record { cells = cs; sink = a })
   unfolding pushed_all map
-  none-given cs a [] h = refl
-  none-given cs a (e ∷ es) h = absurd (omega arith)
+  none_given cs a [] h = refl
+  none_given cs a (e ∷ es) h = absurd (omega arith)
 
-  pub first-gap : (cs : List TableCell) (a : A) (es : List Entry) (d : Entry) (row : List Sign) → (length es ≡ 0 → ⊥) → row ≡ entry_row f o x (get_or es 0 d) → push cs a row ≡ Gap →
+  pub first_gap : (cs : List TableCell) (a : A) (es : List Entry) (d : Entry) (row : List Sign) → (length es ≡ 0 → ⊥) → row ≡ entry_row f o x (get_or es 0 d) → push cs a row ≡ Gap →
       pushed_all push cs a (entry_rows f o x es) ≡ Gap
   unfolding pushed_all map
-  first-gap cs a [] d row h e g = absurd (h refl)
-  first-gap cs a (u ∷ es) d row h e g = ap (λ r. upon r (λ s. pushed_all push s.cells s.sink (entry_rows f o x es))) (ap (push cs a) (sym e) ∙ g)
+  first_gap cs a [] d row h e g = absurd (h refl)
+  first_gap cs a (u ∷ es) d row h e g = ap (λ r. upon r (λ s. pushed_all push s.cells s.sink (entry_rows f o x es))) (ap (push cs a) (sym e) ∙ g)
 
-  pub first-given : (cs ds : List TableCell) (a b : A) (es : List Entry) (d : Entry) (row : List Sign) (R : Outcome (State A)) → (length es ≡ 0 → ⊥) → row ≡ entry_row f o x (get_or es 0 d) →
+  pub first_given : (cs ds : List TableCell) (a b : A) (es : List Entry) (d : Entry) (row : List Sign) (R : Outcome (State A)) → (length es ≡ 0 → ⊥) → row ≡ entry_row f o x (get_or es 0 d) →
       push cs a row ≡ Went (record { cells = ds; sink = b }) → pushed_all push ds b (entry_rows f o x (take (length es - 1) (drop 1 es))) ≡ R → pushed_all push cs a (entry_rows f o x es) ≡ R
   unfolding pushed_all map
-  first-given cs ds a b [] d row R h e g k = absurd (h refl)
-  first-given cs ds a b (u ∷ es) d row R h e g k =
+  first_given cs ds a b [] d row R h e g k = absurd (h refl)
+  first_given cs ds a b (u ∷ es) d row R h e g k =
       ap (λ r. upon r (λ s. pushed_all push s.cells s.sink (entry_rows f o x es))) (ap (push cs a) (sym e) ∙ g)
       ∙ ap (λ z. pushed_all push ds b (entry_rows f o x z)) (sym (rest_of u es))
       ∙ k
@@ -61,13 +61,13 @@ module _ {A : Type 0} (grow : A → List Sign → A) where
   no_table [] cs a b row h e = ap (λ z. Went (record { cells = cs; sink = z })) (sym e)
   no_table (s ∷ stages) cs a b row h e = absurd (omega arith)
 
-  pub table-gap : (stages : List Stage) (cells : List Cell) (d : Stage) (e : Cell) (a : A) (row x : List Sign) (r : Taken) → (length stages ≡ 0 → ⊥) → length stages ≤ length cells →
+  pub table_gap : (stages : List Stage) (cells : List Cell) (d : Stage) (e : Cell) (a : A) (row x : List Sign) (r : Taken) → (length stages ≡ 0 → ⊥) → length stages ≤ length cells →
       stepped (stage_of (get_or stages 0 d)) (cell_of (get_or cells 0 e)) row ≡ taken_of (stage_of (get_or stages 0 d)) x r → r.leaving ≡ None →
       pushed grow (stages_of stages) (cells_of cells) a row ≡ Gap
   unfolding pushed map
-  table-gap [] cells d e a row x r h l s n = absurd (h refl)
-  table-gap (f ∷ stages) [] d e a row x r h l s n = absurd (omega arith)
-  table-gap (f ∷ stages) (c ∷ cells) d e a row x r h l s n =
+  table_gap [] cells d e a row x r h l s n = absurd (h refl)
+  table_gap (f ∷ stages) [] d e a row x r h l s n = absurd (omega arith)
+  table_gap (f ∷ stages) (c ∷ cells) d e a row x r h l s n =
       let next : Stepped → Outcome (State A) =
       λ q. upon (pushed_all (pushed grow (stages_of stages)) (cells_of cells) a q.leaving) (λ t. Went (record { cells = q.cell ∷ t.cells; sink = t.sink }))
       in
@@ -76,7 +76,7 @@ module _ {A : Type 0} (grow : A → List Sign → A) where
       in
       ap (λ z. upon z next) came
 
-  pub table-gives : (stages : List Stage) (cells ds : List Cell) (d : Stage) (e : Cell) (a b : A) (row x o y : List Sign) (r : Taken) (l : Leaving) (es : List Entry) (through : Bool) →
+  pub table_gives : (stages : List Stage) (cells ds : List Cell) (d : Stage) (e : Cell) (a b : A) (row x o y : List Sign) (r : Taken) (l : Leaving) (es : List Entry) (through : Bool) →
       (length stages ≡ 0 → ⊥) → length stages ≤ length cells →
       stepped (stage_of (get_or stages 0 d)) (cell_of (get_or cells 0 e)) row ≡ taken_of (stage_of (get_or stages 0 d)) x r → r.leaving ≡ Some l →
       es ≡ entries_of l → o ≡ signs_of r.held → y ≡ x →
@@ -86,9 +86,9 @@ module _ {A : Type 0} (grow : A → List Sign → A) where
       (let after = set cells 0 r.cell in
       pushed grow (stages_of stages) (cells_of cells) a row ≡ reached through (cells_of (put_mid 1 (length after - 1) after ds)) b)
   unfolding pushed map
-  table-gives [] cells ds d e a b row x o y r l es through h le s n he ho hy k = absurd (h refl)
-  table-gives (f ∷ stages) [] ds d e a b row x o y r l es through h le s n he ho hy k = absurd (omega arith)
-  table-gives (f ∷ stages) (c ∷ cells) ds d e a b row x o y r l es through h le s n he ho hy k =
+  table_gives [] cells ds d e a b row x o y r l es through h le s n he ho hy k = absurd (h refl)
+  table_gives (f ∷ stages) [] ds d e a b row x o y r l es through h le s n he ho hy k = absurd (omega arith)
+  table_gives (f ∷ stages) (c ∷ cells) ds d e a b row x o y r l es through h le s n he ho hy k =
       let next : Stepped → Outcome (State A) =
       λ q. upon (pushed_all (pushed grow (stages_of stages)) (cells_of cells) a q.leaving) (λ t. Went (record { cells = q.cell ∷ t.cells; sink = t.sink }))
       in

@@ -23,11 +23,11 @@ part_of mark top cells front new more e f =
 
 -- nothing below the mark has changed
 module _ (n mark : ℕ) (base cells : List ℤ) (below : take mark cells ≡ take mark base) (long : length cells ≡ length base) where
-  pub placed-from : (x : Checked) (r : Option ℕ) (top' : ℕ) (cells' : List ℤ) → Placed n x r mark cells top' cells' → Placed n x r mark base top' cells'
-  placed-from TooBig None top' cells' h = record { same-top = h.same-top; below = h.below ∙ below; long = h.long ∙ long }
-  placed-from TooBig (Some c) top' cells' h = h
-  placed-from (Fine p) None top' cells' h = h
-  placed-from (Fine p) (Some c) top' cells' h = record {
+  pub placed_from : (x : Checked) (r : Option ℕ) (top' : ℕ) (cells' : List ℤ) → Placed n x r mark cells top' cells' → Placed n x r mark base top' cells'
+  placed_from TooBig None top' cells' h = record { same_top = h.same_top; below = h.below ∙ below; long = h.long ∙ long }
+  placed_from TooBig (Some c) top' cells' h = h
+  placed_from (Fine p) None top' cells' h = h
+  placed_from (Fine p) (Some c) top' cells' h = record {
     numbers = h.numbers;
     counted = h.counted;
     good = h.good;
@@ -55,31 +55,31 @@ module _ (n : ℕ) (p q : Poly) (l r mark : ℕ) (base : List ℤ) (middle : ℕ
   pub left_at : cells_at (span mark l) cells ≡ x.numbers
   left_at = ap (λ k. take k (drop mark cells)) x.counted ∙ part_of mark top cells (take mark base) x.numbers y.numbers both front_long
 
-  pub right-at : cells_at (span (mark + l) r) cells ≡ y.numbers
-  right-at =
+  pub right_at : cells_at (span (mark + l) r) cells ≡ y.numbers
+  right_at =
       let long : length (take middle between) ≡ mark + l = ap length x.grown.stands ∙ length-append (take mark base) x.numbers ∙ ap₂ ◌+◌ front_long (sym x.counted) in
       ap (λ k. take k (drop (mark + l) cells)) y.counted ∙
       part_of (mark + l) top cells (take middle between) y.numbers [] (y.grown.stands ∙ ap (λ u. take middle between ++ u) (sym (append-nil y.numbers))) long
 
-  pub left-held : Holds (span mark l) top cells
-  left-held =
+  pub left_held : Holds (span mark l) top cells
+  left_held =
       let a = x.grown.higher in
       let b = y.grown.higher in
       let c = x.counted in
       record { below = omega arith; good = subst Stored (sym left_at) x.good }
 
-  pub right-held : Holds (span (mark + l) r) top cells
-  right-held =
+  pub right_held : Holds (span (mark + l) r) top cells
+  right_held =
       let a = x.grown.higher in
       let b = y.grown.higher in
       let c = x.counted in
       let d = y.counted in
-      record { below = omega arith; good = subst Stored (sym right-at) y.good }
+      record { below = omega arith; good = subst Stored (sym right_at) y.good }
 
 -- below the mark all is as it was, whether something was stored or not
 placed_below : (n : ℕ) (x : Checked) (r : Option ℕ) (top : ℕ) (cells : List ℤ) (top' : ℕ) (cells' : List ℤ) → top ≤ length cells → Placed n x r top cells top' cells' →
     (take top cells' ≡ take top cells) × (length cells' ≡ length cells) × (top ≤ top') × (top' ≤ length cells')
-placed_below n TooBig None top cells top' cells' h s = let a = s.same-top in let b = s.long in (s.below, s.long, omega arith, omega arith)
+placed_below n TooBig None top cells top' cells' h s = let a = s.same_top in let b = s.long in (s.below, s.long, omega arith, omega arith)
 placed_below n TooBig (Some c) top cells top' cells' h s = absurd s
 placed_below n (Fine p) None top cells top' cells' h s = absurd s
 placed_below n (Fine p) (Some c) top cells top' cells' h s =
@@ -97,11 +97,11 @@ placed_below n (Fine p) (Some c) top cells top' cells' h s =
         let j : length (take top cells) ≡ min top (length cells) = length-take top cells in
         let i = g.higher in omega arith
 
-placed-long : (n : ℕ) (x : Checked) (r : Option ℕ) (top : ℕ) (cells : List ℤ) (top' : ℕ) (cells' : List ℤ) → Placed n x r top cells top' cells' → length cells' ≡ length cells
-placed-long n TooBig None top cells top' cells' s = s.long
-placed-long n TooBig (Some c) top cells top' cells' s = absurd s
-placed-long n (Fine p) None top cells top' cells' s = absurd s
-placed-long n (Fine p) (Some c) top cells top' cells' s = s.grown.long
+placed_long : (n : ℕ) (x : Checked) (r : Option ℕ) (top : ℕ) (cells : List ℤ) (top' : ℕ) (cells' : List ℤ) → Placed n x r top cells top' cells' → length cells' ≡ length cells
+placed_long n TooBig None top cells top' cells' s = s.long
+placed_long n TooBig (Some c) top cells top' cells' s = absurd s
+placed_long n (Fine p) None top cells top' cells' s = absurd s
+placed_long n (Fine p) (Some c) top cells top' cells' s = s.grown.long
 
 -- both operands leave what stood below the mark
 two-below : (n : ℕ) (x y : Checked) (l r : Option ℕ) (mark : ℕ) (base : List ℤ) (middle : ℕ) (between : List ℤ) (top : ℕ) (cells : List ℤ) → mark ≤ length base →
@@ -126,16 +126,16 @@ ready n x y o base middle between top cells room px py =
     held TooBig y (Some l) (Some r) w px py = absurd px
     held (Fine p) TooBig (Some l) (Some r) w px py = absurd py
     held (Fine p) (Fine q) (Some l) (Some r) w px py =
-        (left-held n p q l r o.mark base middle between top cells w px py, right-held n p q l r o.mark base middle between top cells w px py)
+        (left_held n p q l r o.mark base middle between top cells w px py, right_held n p q l r o.mark base middle between top cells w px py)
 
 -- a combination of two lists that is one of polynomials
 abbrev pub Combines : (List Monomial → List Monomial → List Monomial) → (ℕ → Poly → Poly → Poly) → Type 0
 Combines join op = (n : ℕ) (ts us : List Monomial) (p q : Poly) → n ≤ 4 → Denotes n ts p → Denotes n us q → Checks n (join ts us) (op n p q)
 
 module _ (join : List Monomial → List Monomial → List Monomial) (op : ℕ → Poly → Poly → Poly) (combines : Combines join op) (o : Operands) (top : ℕ) (cells : List ℤ) (fits : o.mark ≤ length cells) where
-  pub joins-both : (l r : ℕ) → o.left ≡ Some l → o.right ≡ Some r → (res : Option ℕ) (top' : ℕ) (cells' : List ℤ) →
+  pub joins_both : (l r : ℕ) → o.left ≡ Some l → o.right ≡ Some r → (res : Option ℕ) (top' : ℕ) (cells' : List ℤ) →
       Places (join (terms_at (span o.mark l) cells) (terms_at (span (o.mark + l) r) cells)) res o.mark cells top' cells' → Joins op o res top cells top' cells'
-  joins-both l r el er res top' cells' places n x y base middle between few px py =
+  joins_both l r el er res top' cells' places n x y base middle between few px py =
       go x y (subst (λ u. Placed n x u o.mark base middle between) el px) (subst (λ u. Placed n y u middle between top cells) er py)
     where
       go : (x y : Checked) → Placed n x (Some l) o.mark base middle between → Placed n y (Some r) middle between top cells →
@@ -146,15 +146,15 @@ module _ (join : List Monomial → List Monomial → List Monomial) (op : ℕ �
           let w : o.mark ≤ length base = omega (arith, px.grown.long, py.grown.long) in
           let b = two-below n (Fine p) (Fine q) (Some l) (Some r) o.mark base middle between top cells w px py in
           let dp : Denotes n (terms_at (span o.mark l) cells) p = subst (λ zs. Denotes n (monomials_of zs) p) (sym (left_at n p q l r o.mark base middle between top cells w px py)) px.denotes in
-          let dq : Denotes n (terms_at (span (o.mark + l) r) cells) q = subst (λ zs. Denotes n (monomials_of zs) q) (sym (right-at n p q l r o.mark base middle between top cells w px py)) py.denotes in
-          placed-from n o.mark base cells b.0 b.1 (checked n (op n p q)) res top' cells' (places n (op n p q) (combines n _ _ p q few dp dq))
+          let dq : Denotes n (terms_at (span (o.mark + l) r) cells) q = subst (λ zs. Denotes n (monomials_of zs) q) (sym (right_at n p q l r o.mark base middle between top cells w px py)) py.denotes in
+          placed_from n o.mark base cells b.0 b.1 (checked n (op n p q)) res top' cells' (places n (op n p q) (combines n _ _ p q few dp dq))
 
-  pub joins-none : (o.left ≡ None) ⊎ (o.right ≡ None) → Joins op o None top cells o.mark cells
-  joins-none none n x y base middle between few px py =
-      let long : length cells ≡ length base = placed-long n y o.right middle between top cells py ∙ placed-long n x o.left o.mark base middle between px in
+  pub joins_none : (o.left ≡ None) ⊎ (o.right ≡ None) → Joins op o None top cells o.mark cells
+  joins_none none n x y base middle between few px py =
+      let long : length cells ≡ length base = placed_long n y o.right middle between top cells py ∙ placed_long n x o.left o.mark base middle between px in
       let w : o.mark ≤ length base = omega arith in
       let b = two-below n x y o.left o.right o.mark base middle between top cells w px py in
-      nothing none x y px py (record { same-top = refl; below = b.0; long = b.1 })
+      nothing none x y px py (record { same_top = refl; below = b.0; long = b.1 })
     where
       nothing : (o.left ≡ None) ⊎ (o.right ≡ None) → (x y : Checked) → Placed n x o.left o.mark base middle between → Placed n y o.right middle between top cells →
           Stays o.mark base o.mark cells → Placed n (on_both (λ p q. checked n (op n p q)) x y) None o.mark base o.mark cells

@@ -8,8 +8,8 @@ use Rattle.storage.specs.Storing.{Packed}
 use Rattle.storage.specs.Denoting.{Denotes}
 use Rattle.sentence_tree.specs.Placed.{Placed, Places}
 
-pub placed-modest : (ts : List Monomial) (count top : ℕ) (cells : List ℤ) (top' : ℕ) (cells' : List ℤ) → Packed count ts top cells top' cells' → Places ts (Some count) top cells top' cells'
-placed-modest ts count top cells top' cells' k n p checks =
+pub placed_modest : (ts : List Monomial) (count top : ℕ) (cells : List ℤ) (top' : ℕ) (cells' : List ℤ) → Packed count ts top cells top' cells' → Places ts (Some count) top cells top' cells'
+placed_modest ts count top cells top' cells' k n p checks =
     let small : modest n p ≡ true = sym checks.test ∙ k.modest in
     subst (λ b. Placed n (cond b (Fine p) TooBig) (Some count) top cells top' cells') (sym small) (record {
       numbers = cells_of ts;

@@ -10,7 +10,7 @@ use Rattle.storage.specs.Denoting.{Denotes, Checks}
 
 -- the top is where it was, and nothing below it has changed
 pub record Stays (top : ℕ) (cells : List ℤ) (top' : ℕ) (cells' : List ℤ) : Type 0 where
-  pub same-top : top' ≡ top
+  pub same_top : top' ≡ top
   pub below : take top cells' ≡ take top cells
   pub long : length cells' ≡ length cells
 

@@ -9,12 +9,12 @@ use Rattle.field.specs.declared.sign.Sign.TheVariants.{Neg, Zero, Pos}
 use Rattle.field.specs.Sign.{flip}
 use Rattle.field.specs.Field.{RealClosedField}
 use Rattle.field.proofs.Signs.{flip-flip}
-use Rattle.field.proofs.Order.{zero-sign}
+use Rattle.field.proofs.Order.{zero_sign}
 use Rattle.poly.specs.Poly.{Poly, is_zero}
 use Rattle.poly.specs.Arithmetic.{negative, same}
 use Rattle.poly.specs.Value.{value, Depth}
-use Rattle.poly.proofs.Values.{value-is_zero}
-use Rattle.poly.proofs.Equality.{value_same, value-same-negative, sign-number}
+use Rattle.poly.proofs.Values.{value_is_zero}
+use Rattle.poly.proofs.Equality.{value_same, value_same_negative, sign_number}
 use Rattle.sign_table.specs.Tree.{Tree, by_sign}
 use Rattle.sign_table.specs.Facts.{Fact, Known, Unknown, Is, among, known, ask_known, ask}
 use Rattle.sign_table.specs.Meaning.{Says, TrueFacts}
@@ -28,35 +28,35 @@ Agrees (Is t) s = s ≡ t
 module _ {R : Type 0} (f : RealClosedField R) where
   open f use {sign}
 
-  among-agrees : (e : List R) (p : Poly) (fs : List Fact) → Depth (length e) p → TrueFacts f e fs → Agrees (among (length e) p fs) (sign (value f p e))
+  among_agrees : (e : List R) (p : Poly) (fs : List Fact) → Depth (length e) p → TrueFacts f e fs → Agrees (among (length e) p fs) (sign (value f p e))
   unfolding among
-  among-agrees e p [] d t = tt
-  among-agrees e p (h ∷ hs) d t =
+  among_agrees e p [] d t = tt
+  among_agrees e p (h ∷ hs) d t =
       let n = length e in
-      let rec : Agrees (among n p hs) (sign (value f p e)) = among-agrees e p hs d t.2 in
+      let rec : Agrees (among n p hs) (sign (value f p e)) = among_agrees e p hs d t.2 in
       on_test (same n p h.poly)
       (λ b. Agrees (elim b [ true ↦ Is h.sign | false ↦ elim (same n (negative n p) h.poly) [ true ↦ Is (flip h.sign) | false ↦ among n p hs ] ]) (sign (value f p e)))
       (λ s. ap sign (value_same f e p h.poly d t.0 s) ∙ t.1)
       (λ _. on_test (same n (negative n p) h.poly)
       (λ b. Agrees (elim b [ true ↦ Is (flip h.sign) | false ↦ among n p hs ]) (sign (value f p e)))
       (λ s.
-      let opposite : h.sign ≡ flip (sign (value f p e)) = sym t.1 ∙ ap sign (value-same-negative f e p h.poly d t.0 s) ∙ f.sign-neg (value f p e) in
+      let opposite : h.sign ≡ flip (sign (value f p e)) = sym t.1 ∙ ap sign (value_same_negative f e p h.poly d t.0 s) ∙ f.sign_neg (value f p e) in
       sym (ap flip opposite ∙ flip-flip (sign (value f p e)))) (λ _. rec))
 
-  known-agrees : (e : List R) (p : Poly) (fs : List Fact) → Depth (length e) p → TrueFacts f e fs → Agrees (known (length e) p fs) (sign (value f p e))
-  known-agrees [] p fs d t = sign-number f p d
-  known-agrees (x ∷ e) p fs d t =
+  known_agrees : (e : List R) (p : Poly) (fs : List Fact) → Depth (length e) p → TrueFacts f e fs → Agrees (known (length e) p fs) (sign (value f p e))
+  known_agrees [] p fs d t = sign_number f p d
+  known_agrees (x ∷ e) p fs d t =
       on_test (is_zero p) (λ b. Agrees (elim b [ true ↦ Is Zero | false ↦ among (suc (length e)) p fs ]) (sign (value f p (x ∷ e))))
-      (λ z. zero-sign f (value f p (x ∷ e)) (value-is_zero f (x ∷ e) p z)) (λ _. among-agrees (x ∷ e) p fs d t)
+      (λ z. zero_sign f (value f p (x ∷ e)) (value_is_zero f (x ∷ e) p z)) (λ _. among_agrees (x ∷ e) p fs d t)
 
   -- what goes on with the sign of p goes on with the right one
   abbrev pub GoesOn : List R → Tree → Poly → (Sign → List Fact → Tree) → Type 0
   GoesOn e what p k = (gs : List Fact) × TrueFacts f e gs × Says f what (k (sign (value f p e)) gs) e
 
-  pub ask-says : (e : List R) (what : Tree) (p : Poly) (fs : List Fact) (k : Sign → List Fact → Tree) → Depth (length e) p → TrueFacts f e fs →
+  pub ask_says : (e : List R) (what : Tree) (p : Poly) (fs : List Fact) (k : Sign → List Fact → Tree) → Depth (length e) p → TrueFacts f e fs →
       Says f what (ask (length e) p fs k) e → GoesOn e what p k
   unfolding Says
-  ask-says e what p fs k d t = go (known (length e) p fs) (known-agrees e p fs d t)
+  ask_says e what p fs k d t = go (known (length e) p fs) (known_agrees e p fs d t)
     where
       asked : (s : Sign) → sign (value f p e) ≡ s →
           by_sign s (Says f what (k Neg (record { poly = p; sign = Neg } ∷ fs)) e) (Says f what (k Zero (record { poly = p; sign = Zero } ∷ fs)) e)

@@ -10,13 +10,13 @@ use lib.ListN.{length}
 use Rattle.field.specs.declared.sign.Sign.{Sign}
 use Rattle.field.specs.declared.sign.Sign.TheVariants.{Neg, Zero, Pos}
 use Rattle.field.specs.Field.{RealClosedField}
-use Rattle.field.proofs.Order.{zero-sign}
+use Rattle.field.proofs.Order.{zero_sign}
 use Rattle.poly.specs.Poly.{Poly, is_zero}
 use Rattle.poly.specs.Leading.{leading, without_leading, degree}
 use Rattle.poly.specs.Value.{value}
-use Rattle.poly.proofs.Depth.{Depth-leading, Depth-without_leading}
-use Rattle.poly.proofs.Values.{value-is_zero}
-use Rattle.poly.proofs.Leading.{value-without_leading, value-degree-zero}
+use Rattle.poly.proofs.Depth.{Depth_leading, Depth_without_leading}
+use Rattle.poly.proofs.Values.{value_is_zero}
+use Rattle.poly.proofs.Leading.{value_without_leading, value_degree_zero}
 use Rattle.sign_table.specs.Tree.{Tree, GivenUp}
 use Rattle.sign_table.specs.Facts.{Fact, ask}
 use Rattle.sign_table.specs.Leadings.{Left, Plain, Real, left_of, headed, turned_round, leadings, reals, filled}
@@ -24,17 +24,17 @@ use Rattle.sign_table.specs.Table.{polys}
 use Rattle.sign_table.specs.Meaning.{Says, YesOrNo, DepthAll, TrueFacts}
 use Rattle.sign_table.specs.Right.{Member, signs_at, SomeRoot}
 use Rattle.sign_table.proofs.Along.{on_test}
-use Rattle.sign_table.proofs.Facts.{ask-says}
+use Rattle.sign_table.proofs.Facts.{ask_says}
 use Rattle.sign_table.proofs.Lefts.{Every}
 use Rattle.sign_table.proofs.Headed.{HasLeading, HeadedReal}
 
-pub not-given-up : (what : Tree) → YesOrNo what → what ≡ GivenUp → ⊥
-not-given-up what (inl y) g = let z : ◌≡◌ {A = ℕ} 0 1 = cc in omega arith
-not-given-up what (inr y) g = let z : ◌≡◌ {A = ℕ} 0 1 = cc in omega arith
+pub not_given_up : (what : Tree) → YesOrNo what → what ≡ GivenUp → ⊥
+not_given_up what (inl y) g = let z : ◌≡◌ {A = ℕ} 0 1 = cc in omega arith
+not_given_up what (inr y) g = let z : ◌≡◌ {A = ℕ} 0 1 = cc in omega arith
 
-degree-positive : (m : ℕ) → T (not (eqb m 0)) → 1 ≤ m
-degree-positive zero t = absurd t
-degree-positive (suc m) t = omega arith
+degree_positive : (m : ℕ) → T (not (eqb m 0)) → 1 ≤ m
+degree_positive zero t = absurd t
+degree_positive (suc m) t = omega arith
 
 module _ {R : Type 0} (f : RealClosedField R) (e : List R) where
   open f use {zero as 𝟘, sign}
@@ -51,15 +51,15 @@ module _ {R : Type 0} (f : RealClosedField R) (e : List R) where
   AreLeft (p ∷ ps) (l ∷ ls) = IsLeft p l × AreLeft ps ls
 
   -- what is left of a polynomial is left of another with the same values
-  left-same : (p q : Poly) → ((x : R) → value f p (x ∷ e) ≡ value f q (x ∷ e)) → (l : Left) → IsLeft q l → IsLeft p l
-  left-same p q h (Plain s) i = λ x. ap sign (h x) ∙ i x
-  left-same p q h (Real r s) i = (i.0, λ x. h x ∙ i.1 x)
+  left_same : (p q : Poly) → ((x : R) → value f p (x ∷ e) ≡ value f q (x ∷ e)) → (l : Left) → IsLeft q l → IsLeft p l
+  left_same p q h (Plain s) i = λ x. ap sign (h x) ∙ i x
+  left_same p q h (Real r s) i = (i.0, λ x. h x ∙ i.1 x)
 
-  left-of : (p : Poly) (s : Sign) → HasLeading f e p s → IsLeft p (left_of p s)
-  left-of p s h =
+  left_of_lem : (p : Poly) (s : Sign) → HasLeading f e p s → IsLeft p (left_of p s)
+  left_of_lem p s h =
       on_test (eqb (degree p) 0) (λ b. IsLeft p (cond b (Plain s) (Real p s)))
-      (λ t. λ x. ap sign (value-degree-zero f (length e) e x p h.depth (eqb→eq (degree p) 0 t)) ∙ h.is)
-      (λ t. ((h, degree-positive (degree p) t), λ x. refl))
+      (λ t. λ x. ap sign (value_degree_zero f (length e) e x p h.depth (eqb→eq (degree p) 0 t)) ∙ h.is)
+      (λ t. ((h, degree_positive (degree p) t), λ x. refl))
 
   module _ (what : Tree) (yes_or_no : YesOrNo what) (k : List Left → List Fact → Tree) where
     -- it went on with what is left of ps, after ls
@@ -70,7 +70,7 @@ module _ {R : Type 0} (f : RealClosedField R) (e : List R) where
         Says f what (leadings looks (length e) ps ls fs k) e → Settled ps ls
     unfolding leadings Says turned_round
     leadings-settled zero [] ls fs d t h = ([], fs, tt, t, h)
-    leadings-settled zero (p ∷ ps) ls fs d t h = absurd (not-given-up what yes_or_no h)
+    leadings-settled zero (p ∷ ps) ls fs d t h = absurd (not_given_up what yes_or_no h)
     leadings-settled (suc looks) [] ls fs d t h = ([], fs, tt, t, h)
     leadings-settled (suc looks) (p ∷ ps) ls fs d t h =
         on_test (is_zero p)
@@ -78,9 +78,9 @@ module _ {R : Type 0} (f : RealClosedField R) (e : List R) where
           | true ↦ leadings looks n ps (Plain Zero ∷ ls) fs k
           | false ↦ ask n (leading n p) fs (λ s gs. headed p s ps ls (λ qs ms. leadings looks n qs ms gs k))
         ]) e → Settled (p ∷ ps) ls)
-        (λ z says. next (Plain Zero) (λ x. zero-sign f (value f p (x ∷ e)) (value-is_zero f (x ∷ e) p z)) (leadings-settled looks ps (Plain Zero ∷ ls) fs d.1 t says))
+        (λ z says. next (Plain Zero) (λ x. zero_sign f (value f p (x ∷ e)) (value_is_zero f (x ∷ e) p z)) (leadings-settled looks ps (Plain Zero ∷ ls) fs d.1 t says))
         (λ z says.
-        let (gs, t-gs, says') = ask-says f e what (leading n p) fs (λ s gs. headed p s ps ls (λ qs ms. leadings looks n qs ms gs k)) (Depth-leading n p d.0) t says in
+        let (gs, t-gs, says') = ask_says f e what (leading n p) fs (λ s gs. headed p s ps ls (λ qs ms. leadings looks n qs ms gs k)) (Depth_leading n p d.0) t says in
         by_sign (sign (value f (leading n p) e)) refl gs (λ qs ms d-qs. leadings-settled looks qs ms gs d-qs t-gs) says')
         h
       where
@@ -94,14 +94,14 @@ module _ {R : Type 0} (f : RealClosedField R) (e : List R) where
         shorter : value f (leading n p) e ≡ 𝟘 → Settled (without_leading p ∷ ps) ls → Settled (p ∷ ps) ls
         shorter z ([], gs, rest, t-gs, says) = absurd rest
         shorter z (m ∷ ms, gs, rest, t-gs, says) =
-            (m ∷ ms, gs, (left-same p (without_leading p) (λ x. value-without_leading f n e x p d.0 z) m rest.0, rest.1), t-gs, says)
+            (m ∷ ms, gs, (left_same p (without_leading p) (λ x. value_without_leading f n e x p d.0 z) m rest.0, rest.1), t-gs, says)
 
         by_sign : (s : Sign) → sign (value f (leading n p) e) ≡ s → (gs : List Fact) →
             ((qs : List Poly) (ms : List Left) → DepthAll (suc n) qs → Says f what (leadings looks n qs ms gs k) e → Settled qs ms) →
             Says f what (headed p s ps ls (λ qs ms. leadings looks n qs ms gs k)) e → Settled (p ∷ ps) ls
-        by_sign Neg s-is gs rec says = next (left_of p Neg) (left-of p Neg (record { depth = d.0; not-zero = tt; is = s-is })) (rec ps (left_of p Neg ∷ ls) d.1 says)
-        by_sign Zero s-is gs rec says = shorter (f.sign_zero (value f (leading n p) e) s-is) (rec (without_leading p ∷ ps) ls (Depth-without_leading n p d.0, d.1) says)
-        by_sign Pos s-is gs rec says = next (left_of p Pos) (left-of p Pos (record { depth = d.0; not-zero = tt; is = s-is })) (rec ps (left_of p Pos ∷ ls) d.1 says)
+        by_sign Neg s-is gs rec says = next (left_of p Neg) (left_of_lem p Neg (record { depth = d.0; not_zero = tt; is = s-is })) (rec ps (left_of p Neg ∷ ls) d.1 says)
+        by_sign Zero s-is gs rec says = shorter (f.sign_zero (value f (leading n p) e) s-is) (rec (without_leading p ∷ ps) ls (Depth_without_leading n p d.0, d.1) says)
+        by_sign Pos s-is gs rec says = next (left_of p Pos) (left_of_lem p Pos (record { depth = d.0; not_zero = tt; is = s-is })) (rec ps (left_of p Pos ∷ ls) d.1 says)
 
   pub reals-headed : (ps : List Poly) (ls : List Left) → AreLeft ps ls → Every (HeadedReal f e) (reals ls)
   unfolding reals
@@ -111,26 +111,26 @@ module _ {R : Type 0} (f : RealClosedField R) (e : List R) where
   reals-headed (p ∷ ps) (Plain s ∷ ls) h = reals-headed ps ls h.1
   reals-headed (p ∷ ps) (Real q s ∷ ls) h = (h.0.0, reals-headed ps ls h.1)
 
-  pub filled-signs : (ps : List Poly) (ls : List Left) → AreLeft ps ls → (x : R) → signs_at f ps (x ∷ e) ≡ filled ls (signs_at f (polys (reals ls)) (x ∷ e))
+  pub filled_signs : (ps : List Poly) (ls : List Left) → AreLeft ps ls → (x : R) → signs_at f ps (x ∷ e) ≡ filled ls (signs_at f (polys (reals ls)) (x ∷ e))
   unfolding reals filled
-  filled-signs [] [] h x = refl
-  filled-signs [] (l ∷ ls) h x = absurd h
-  filled-signs (p ∷ ps) [] h x = absurd h
-  filled-signs (p ∷ ps) (Plain s ∷ ls) h x = ap₂ {C = List Sign} (λ u v. u ∷ v) (h.0 x) (filled-signs ps ls h.1 x)
-  filled-signs (p ∷ ps) (Real q s ∷ ls) h x = ap₂ {C = List Sign} (λ u v. u ∷ v) (ap sign (h.0.1 x)) (filled-signs ps ls h.1 x)
+  filled_signs [] [] h x = refl
+  filled_signs [] (l ∷ ls) h x = absurd h
+  filled_signs (p ∷ ps) [] h x = absurd h
+  filled_signs (p ∷ ps) (Plain s ∷ ls) h x = ap₂ {C = List Sign} (λ u v. u ∷ v) (h.0 x) (filled_signs ps ls h.1 x)
+  filled_signs (p ∷ ps) (Real q s ∷ ls) h x = ap₂ {C = List Sign} (λ u v. u ∷ v) (ap sign (h.0.1 x)) (filled_signs ps ls h.1 x)
 
   -- a real one is left of some polynomial
-  left-member : (ps : List Poly) (ls : List Left) → AreLeft ps ls → (q : Poly) → Member q (polys (reals ls)) →
+  left_member : (ps : List Poly) (ls : List Left) → AreLeft ps ls → (q : Poly) → Member q (polys (reals ls)) →
       (p : Poly) × Member p ps × ((x : R) → value f p (x ∷ e) ≡ value f q (x ∷ e))
   unfolding reals
-  left-member [] [] h q i = absurd i
-  left-member [] (l ∷ ls) h q i = absurd h
-  left-member (p ∷ ps) [] h q i = absurd h
-  left-member (p ∷ ps) (Plain s ∷ ls) h q i = let (r, j, same) = left-member ps ls h.1 q i in (r, inr j, same)
-  left-member (p ∷ ps) (Real r s ∷ ls) h q (inl i) = (p, inl refl, λ x. h.0.1 x ∙ ap (λ u. value f u (x ∷ e)) (sym i))
-  left-member (p ∷ ps) (Real r s ∷ ls) h q (inr i) = let (t, j, same) = left-member ps ls h.1 q i in (t, inr j, same)
+  left_member [] [] h q i = absurd i
+  left_member [] (l ∷ ls) h q i = absurd h
+  left_member (p ∷ ps) [] h q i = absurd h
+  left_member (p ∷ ps) (Plain s ∷ ls) h q i = let (r, j, same) = left_member ps ls h.1 q i in (r, inr j, same)
+  left_member (p ∷ ps) (Real r s ∷ ls) h q (inl i) = (p, inl refl, λ x. h.0.1 x ∙ ap (λ u. value f u (x ∷ e)) (sym i))
+  left_member (p ∷ ps) (Real r s ∷ ls) h q (inr i) = let (t, j, same) = left_member ps ls h.1 q i in (t, inr j, same)
 
-  pub left-root : (ps : List Poly) (ls : List Left) → AreLeft ps ls → (c : R) → SomeRoot f e (polys (reals ls)) c → SomeRoot f e ps c
-  left-root ps ls h c (q, i, root, (x, apart)) =
-      let (p, j, same) = left-member ps ls h q i in
+  pub left_root : (ps : List Poly) (ls : List Left) → AreLeft ps ls → (c : R) → SomeRoot f e (polys (reals ls)) c → SomeRoot f e ps c
+  left_root ps ls h c (q, i, root, (x, apart)) =
+      let (p, j, same) = left_member ps ls h q i in
       (p, j, same c ∙ root, (x, λ z. apart (sym (same x) ∙ z)))

@@ -19,12 +19,12 @@ front-is zs c s m len e p q =
     let k : len ≡ min c (min t 64) = omega arith in
     ap (λ j. take j (drop 1 zs)) k ∙ sym (take_min c (min t 64) (drop 1 zs))
 
-pub slot-few : (cells : List ℤ) (i : ℕ) → length (slot_in cells i) ≤ 64
-slot-few cells i = let zs = part 65 (65 * i) cells in let f = length-take (min (small_of (get_or zs 0 (pos 0))) 64) (drop 1 zs) in omega arith
+pub slot_few : (cells : List ℤ) (i : ℕ) → length (slot_in cells i) ≤ 64
+slot_few cells i = let zs = part 65 (65 * i) cells in let f = length-take (min (small_of (get_or zs 0 (pos 0))) 64) (drop 1 zs) in omega arith
 
-pub slot-written : (i : ℕ) (z : ℤ) (values before mid after : List ℤ) → z ≡ pos (length values) → length values ≤ 64 → 65 * i + 65 ≤ length before →
+pub slot_written : (i : ℕ) (z : ℤ) (values before mid after : List ℤ) → z ≡ pos (length values) → length values ≤ 64 → 65 * i + 65 ≤ length before →
     Put (65 * i) (z ∷ []) before mid → Put (65 * i + 1) values mid after → Written slot_in i values before after
-slot-written i z values before mid after e few room p q =
+slot_written i z values before mid after e few room p q =
     record {
       long = q.long ∙ p.long;
       there = there;

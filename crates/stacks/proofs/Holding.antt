@@ -6,7 +6,7 @@ use Rattle.poly.specs.Poly.{Poly, End}
 use Rattle.terms.specs.Monomial.{Monomial, flat, Rising}
 use Rattle.terms.specs.Cells.{monomials_of}
 use Rattle.terms.specs.Sizes.{SizesAtMost}
-use Rattle.terms.proofs.Laws.{canon-laws}
+use Rattle.terms.proofs.Laws.{canon_laws}
 use Rattle.terms.proofs.Tests.{by_less}
 use Rattle.packed.specs.Stored.{Stored}
 use Rattle.packed.proofs.Leading.{stored-take, take-monomials}
@@ -25,20 +25,20 @@ spelt_is n ts p d = ap (spelt n) d.monomials ∙ spelt-flat n p d.canon
 holds : (n : ℕ) (zs : List ℤ) (p : Poly) → Stored zs → Denotes (suc n) (monomials_of zs) p → Holds n zs
 holds n zs p s d = record { stored = s; denotes = subst (Denotes (suc n) (monomials_of zs)) (sym (spelt_is (suc n) (monomials_of zs) p d)) d }
 
-front-holds : (n : ℕ) (zs : List ℤ) (count : ℕ) → Holds n zs → Holds n (take count zs)
+front_holds : (n : ℕ) (zs : List ℤ) (count : ℕ) → Holds n zs → Holds n (take count zs)
 unfolding Front
-front-holds n zs count h =
+front_holds n zs count h =
     let (q, c, e) = front-is-flat (suc n) count (poly_of n zs) h.denotes.canon in
     holds n (take count zs) q (stored-take zs count h.stored)
     (record { canon = c; monomials = take-monomials zs count ∙ ap (take count) h.denotes.monomials ∙ e })
 
-none-holds : (n : ℕ) → Holds n []
-none-holds n =
+none_holds : (n : ℕ) → Holds n []
+none_holds n =
     holds n [] End (record { rising = unfold monomials_of Rising in tt; sizes = unfold monomials_of SizesAtMost in tt; short = omega arith })
-    (record { canon = canon-laws.Canon-zero_poly 9 (suc n); monomials = unfold monomials_of flat in refl })
+    (record { canon = canon_laws.Canon_zero_poly 9 (suc n); monomials = unfold monomials_of flat in refl })
 
-written-holds : (n i : ℕ) (zs slots after : List ℤ) → AllHold n slots → Holds n zs → Written slot_in i zs slots after → AllHold n after
-written-holds n i zs slots after all h w j =
+written_holds : (n i : ℕ) (zs slots after : List ℤ) → AllHold n slots → Holds n zs → Written slot_in i zs slots after → AllHold n after
+written_holds n i zs slots after all h w j =
     by_less j i (λ l. subst (Holds n) (sym (w.under j l)) (all j)) (λ l. at (eq-or-lt_of_le {n = i} {m = j} l))
   where
     at : (i ≡ j) ⊎ (i < j) → Holds n (slot_in after j)
@@ -46,11 +46,11 @@ written-holds n i zs slots after all h w j =
     at (inr l) = subst (Holds n) (sym (w.over j l)) (all j)
 
 pub slot_laws : SlotLaws
-slot_laws = record { spelt_is = spelt_is; holds = holds; front-holds = front-holds; none-holds = none-holds; written-holds = written-holds }
+slot_laws = record { spelt_is = spelt_is; holds = holds; front_holds = front_holds; none_holds = none_holds; written_holds = written_holds }
 
 -- nothing but zeros
-pub zeros-hold : (cells : List ℤ) (len : ℕ) → ((k : ℕ) → k < len → get_or cells k (pos 0) ≡ pos 0) → length cells ≤ len → (n : ℕ) → AllHold n cells
-zeros-hold cells len z l n i = subst (Holds n) (sym none) (none-holds n)
+pub zeros_hold : (cells : List ℤ) (len : ℕ) → ((k : ℕ) → k < len → get_or cells k (pos 0) ≡ pos 0) → length cells ≤ len → (n : ℕ) → AllHold n cells
+zeros_hold cells len z l n i = subst (Holds n) (sym none) (none_holds n)
   where
     all : (k : ℕ) → get_or cells k (pos 0) ≡ pos 0
     all k = by_less k len (z k) (λ h. get_or_past cells k (pos 0) (omega arith))

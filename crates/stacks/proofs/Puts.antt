@@ -3,8 +3,8 @@ use Rattle.std.proofs.Common.{◌≡◌, ℕ, suc, ◌+◌, ◌-◌, ◌*◌, �
 use Rattle.std.proofs.lemmas.List.{ext_get_or, get_or-drop, length-take-le}
 use Rattle.stacks.specs.Written.{PutSome, Put, Written, part}
 
-pub put-none : (at : ℕ) (values before : List ℤ) → PutSome 0 at values before before
-put-none at values before = record { long = refl; there = λ j h. absurd (omega arith); under = λ j h. refl; over = λ j h. refl }
+pub put_none : (at : ℕ) (values before : List ℤ) → PutSome 0 at values before before
+put_none at values before = record { long = refl; there = λ j h. absurd (omega arith); under = λ j h. refl; over = λ j h. refl }
 
 pub put_next : (i at : ℕ) (values before after : List ℤ) (z : ℤ) → i < length values → at + length values ≤ length before → z ≡ get_or values i (pos 0) →
     PutSome i at values before after → PutSome (i + 1) at values before (set after (at + i) z)

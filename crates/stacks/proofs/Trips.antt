@@ -31,8 +31,8 @@ sign-back Neg = refl
 sign-back Zero = refl
 sign-back Pos = refl
 
-pub tree-back : (i : ℕ) (z : ℤ) → i < 65536 → z ≡ pos (i + 3) → tree_at z ≡ Numbered i
-tree-back i z h q =
+pub tree_back : (i : ℕ) (z : ℤ) → i < 65536 → z ≡ pos (i + 3) → tree_at z ≡ Numbered i
+tree_back i z h q =
     let a : eqb (i + 3) 0 ≡ false = ne_eqb (i + 3) 0 (λ e. omega arith) in
     let b : eqb (i + 3) 1 ≡ false = ne_eqb (i + 3) 1 (λ e. omega arith) in
     let l : leb 3 (i + 3) ≡ true = le-leb 3 (i + 3) (omega arith) in
@@ -77,9 +77,9 @@ marks-back v h1 h2 h3 h4 h5 h6 h7 a b c d e f g rest p1 p2 p3 p4 p5 p6 p7 =
     let x7 = small_is v.frames g h7 p7 in
     λ i. record { looks = x1 i; base = x2 i; done = x3 i; ahead = x4 i; count = x5 i; facts = x6 i; frames = x7 i }
 
-pub branch-trip : (f a b : ℤ) (v : Branch) → SFits w64 f → SFits w64 a → SFits w64 b → branch_from (small_of f) (tree_at a) (tree_at b) ≡ v →
+pub branch_trip : (f a b : ℤ) (v : Branch) → SFits w64 f → SFits w64 a → SFits w64 b → branch_from (small_of f) (tree_at a) (tree_at b) ≡ v →
     branch_from (small_of (to_z w64 (of_z w64 f))) (tree_at (to_z w64 (of_z w64 a))) (tree_at (to_z w64 (of_z w64 b))) ≡ v
-branch-trip f a b v hf ha hb e =
+branch_trip f a b v hf ha hb e =
     let p = to_z-of_z w64 f hf in
     let q = to_z-of_z w64 a ha in
     let r = to_z-of_z w64 b hb in
@@ -92,5 +92,5 @@ pub question-back : (v : Question) → let m = v.marks in
     question_of (a ∷ b ∷ c ∷ d ∷ e ∷ f ∷ g ∷ to_z w64 (of_z w64 x) ∷ to_z w64 (of_z w64 y) ∷ to_z w64 (of_z w64 z) ∷ []) ≡ v
 question-back v h1 h2 h3 h4 h5 h6 h7 a b c d e f g x y z p1 p2 p3 p4 p5 p6 p7 hx hy hz q =
     let m = marks-back v.marks h1 h2 h3 h4 h5 h6 h7 a b c d e f g (to_z w64 (of_z w64 x) ∷ to_z w64 (of_z w64 y) ∷ to_z w64 (of_z w64 z) ∷ []) p1 p2 p3 p4 p5 p6 p7 in
-    let r = branch-trip x y z v.branch hx hy hz q in
+    let r = branch_trip x y z v.branch hx hy hz q in
     λ i. record { marks = m i; branch = r i }

@@ -15,6 +15,6 @@ pub record SlotLaws : Type 0 where
   pub spelt_is : (n : ℕ) (ts : List Monomial) (p : Poly) → Denotes n ts p → spelt n ts ≡ p
   pub holds : (n : ℕ) (zs : List ℤ) (p : Poly) → Stored zs → Denotes (suc n) (monomials_of zs) p → Holds n zs
   -- the first monomials of a polynomial are a polynomial
-  pub front-holds : (n : ℕ) (zs : List ℤ) (count : ℕ) → Holds n zs → Holds n (take count zs)
-  pub none-holds : (n : ℕ) → Holds n []
-  pub written-holds : (n i : ℕ) (zs slots after : List ℤ) → AllHold n slots → Holds n zs → Written slot_in i zs slots after → AllHold n after
+  pub front_holds : (n : ℕ) (zs : List ℤ) (count : ℕ) → Holds n zs → Holds n (take count zs)
+  pub none_holds : (n : ℕ) → Holds n []
+  pub written_holds : (n i : ℕ) (zs slots after : List ℤ) → AllHold n slots → Holds n zs → Written slot_in i zs slots after → AllHold n after

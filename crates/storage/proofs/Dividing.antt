@@ -11,7 +11,7 @@ use Rattle.terms.specs.LeadingTerms.{length_terms}
 use Rattle.terms.specs.DivisionTerms.{step_terms}
 use Rattle.terms.specs.ModestTerms.{small_key, small_terms, last_digits, modest_terms}
 use Rattle.terms.specs.Cells.{cells_of, monomials_of}
-use Rattle.terms.proofs.Bounds.{size-neg}
+use Rattle.terms.proofs.Bounds.{size_neg}
 use Rattle.packed.specs.Stored.{Stored}
 use Rattle.arena.specs.Growth.{Grown, Kept}
 use Rattle.field.specs.declared.sign.Sign.{Sign}
@@ -23,7 +23,7 @@ use Rattle.storage.specs.Spans.{cells_at, terms_at, Holds}
 use Rattle.storage.specs.Denoting.{Denotes}
 use Rattle.storage.specs.Dividing.{Untouched, Dividing, Divided, Refused, divided, Remainder, NoRemainder, remains, exchanges_sign}
 use Rattle.storage.proofs.Cells.{length-cells}
-use Rattle.storage.proofs.Denoting.{denoting-laws}
+use Rattle.storage.proofs.Denoting.{denoting_laws}
 
 abbrev pub span : ℕ → ℕ → Span
 span from count = record { from = from; count = count }
@@ -51,20 +51,20 @@ grown-untouched new mark cells top' cells' h few g =
     }
 
 pub kept-untouched : (mark : ℕ) (cells : List ℤ) (top' : ℕ) (cells' : List ℤ) → Kept mark cells top' cells' → Untouched mark cells top' cells'
-kept-untouched mark cells top' cells' k = record { same = ap (take mark) k.same-cells; long = ap length k.same-cells; above = omega (arith, k.same-top); most = omega (arith, k.same-top) }
+kept-untouched mark cells top' cells' k = record { same = ap (take mark) k.same_cells; long = ap length k.same_cells; above = omega (arith, k.same_top); most = omega (arith, k.same_top) }
 
-pub untouched-on : (mark : ℕ) (cells : List ℤ) (top1 : ℕ) (cells1 : List ℤ) (top2 : ℕ) (cells2 : List ℤ) → Untouched mark cells top1 cells1 → Untouched mark cells1 top2 cells2 → Untouched mark cells top2 cells2
-untouched-on mark cells top1 cells1 top2 cells2 u v = record { same = v.same ∙ u.same; long = v.long ∙ u.long; above = v.above; most = v.most }
+pub untouched_on : (mark : ℕ) (cells : List ℤ) (top1 : ℕ) (cells1 : List ℤ) (top2 : ℕ) (cells2 : List ℤ) → Untouched mark cells top1 cells1 → Untouched mark cells1 top2 cells2 → Untouched mark cells top2 cells2
+untouched_on mark cells top1 cells1 top2 cells2 u v = record { same = v.same ∙ u.same; long = v.long ∙ u.long; above = v.above; most = v.most }
 
-pub terms-kept : (s : Span) (mark : ℕ) (cells : List ℤ) (top' : ℕ) (cells' : List ℤ) → Holds s mark cells → Untouched mark cells top' cells' → terms_at s cells' ≡ terms_at s cells
-terms-kept s mark cells top' cells' h u = ap monomials_of (span-kept s mark cells cells' h.below u.same)
+pub terms_kept : (s : Span) (mark : ℕ) (cells : List ℤ) (top' : ℕ) (cells' : List ℤ) → Holds s mark cells → Untouched mark cells top' cells' → terms_at s cells' ≡ terms_at s cells
+terms_kept s mark cells top' cells' h u = ap monomials_of (span-kept s mark cells cells' h.below u.same)
 
 pub holds_kept : (s : Span) (mark : ℕ) (cells : List ℤ) (top' : ℕ) (cells' : List ℤ) → Holds s mark cells → Untouched mark cells top' cells' → Holds s top' cells'
 holds_kept s mark cells top' cells' h u =
     record { below = omega (arith, h.below, u.above); good = subst Stored (sym (span-kept s mark cells cells' h.below u.same)) h.good }
 
-pub terms-new : (count : ℕ) (ts : List Monomial) (mark : ℕ) (cells : List ℤ) (top' : ℕ) (cells' : List ℤ) → mark ≤ length cells → Packed count ts mark cells top' cells' → terms_at (span mark count) cells' ≡ ts
-terms-new count ts mark cells top' cells' h p =
+pub terms_new : (count : ℕ) (ts : List Monomial) (mark : ℕ) (cells : List ℤ) (top' : ℕ) (cells' : List ℤ) → mark ≤ length cells → Packed count ts mark cells top' cells' → terms_at (span mark count) cells' ≡ ts
+terms_new count ts mark cells top' cells' h p =
     ap monomials_of (span-new (cells_of ts) mark count cells top' cells' (p.counted ∙ sym (length-cells ts)) h p.grown) ∙ p.back
 
 pub holds-new : (count : ℕ) (ts : List Monomial) (mark : ℕ) (cells : List ℤ) (top' : ℕ) (cells' : List ℤ) → mark ≤ length cells → Packed count ts mark cells top' cells' → Holds (span mark count) top' cells'
@@ -75,35 +75,35 @@ holds-new count ts mark cells top' cells' h p =
     }
 
 -- the definition of division by cases
-divide-stop : (fuel n : ℕ) (p q : Poly) (k : ℕ) → ltb (length (coefs q)) (length (coefs p)) ≡ true → divide fuel n p q k ≡ record { good = true; steps = k; rest = q }
+divide_stop : (fuel n : ℕ) (p q : Poly) (k : ℕ) → ltb (length (coefs q)) (length (coefs p)) ≡ true → divide fuel n p q k ≡ record { good = true; steps = k; rest = q }
 unfolding divide
-divide-stop zero n p q k t = refl
-divide-stop (suc fuel) n p q k t = rw (t, divide)
+divide_stop zero n p q k t = refl
+divide_stop (suc fuel) n p q k t = rw (t, divide)
 
-divide-none : (fuel n : ℕ) (p q : Poly) (k : ℕ) → fuel ≤ 0 → divide fuel n p q k ≡ record { good = true; steps = k; rest = q }
+divide_none : (fuel n : ℕ) (p q : Poly) (k : ℕ) → fuel ≤ 0 → divide fuel n p q k ≡ record { good = true; steps = k; rest = q }
 unfolding divide
-divide-none zero n p q k h = refl
-divide-none (suc fuel) n p q k h = absurd (omega arith)
+divide_none zero n p q k h = refl
+divide_none (suc fuel) n p q k h = absurd (omega arith)
 
 by_step : (fuel n : ℕ) (p q : Poly) (k : ℕ) → Bool → Division
 by_step fuel n p q k t = elim t [ true ↦ divide fuel n p (division_step n p q) (k + 1) | false ↦ record { good = false; steps = k; rest = q } ]
 
-divide-by : (fuel n : ℕ) (p q : Poly) (k : ℕ) → ltb (length (coefs q)) (length (coefs p)) ≡ false → divide (suc fuel) n p q k ≡ by_step fuel n p q k (modest (suc n) (division_step n p q))
+divide_by : (fuel n : ℕ) (p q : Poly) (k : ℕ) → ltb (length (coefs q)) (length (coefs p)) ≡ false → divide (suc fuel) n p q k ≡ by_step fuel n p q k (modest (suc n) (division_step n p q))
 unfolding divide by_step
-divide-by fuel n p q k t = rw (t, divide)
+divide_by fuel n p q k t = rw (t, divide)
 
-divide-on : (fuel n : ℕ) (p q : Poly) (k : ℕ) → 0 < fuel → ltb (length (coefs q)) (length (coefs p)) ≡ false → modest (suc n) (division_step n p q) ≡ true →
+divide_on : (fuel n : ℕ) (p q : Poly) (k : ℕ) → 0 < fuel → ltb (length (coefs q)) (length (coefs p)) ≡ false → modest (suc n) (division_step n p q) ≡ true →
     divide fuel n p q k ≡ divide (fuel - 1) n p (division_step n p q) (k + 1)
 unfolding by_step
-divide-on zero n p q k h t m = absurd (omega arith)
-divide-on (suc fuel) n p q k h t m =
+divide_on zero n p q k h t m = absurd (omega arith)
+divide_on (suc fuel) n p q k h t m =
     let e : suc fuel - 1 ≡ fuel = omega arith in
-    divide-by fuel n p q k t ∙ ap (by_step fuel n p q k) m ∙ ap (λ f. divide f n p (division_step n p q) (k + 1)) (sym e)
+    divide_by fuel n p q k t ∙ ap (by_step fuel n p q k) m ∙ ap (λ f. divide f n p (division_step n p q) (k + 1)) (sym e)
 
-divide-fails : (fuel n : ℕ) (p q : Poly) (k : ℕ) → 0 < fuel → ltb (length (coefs q)) (length (coefs p)) ≡ false → modest (suc n) (division_step n p q) ≡ false → (divide fuel n p q k).good ≡ false
+divide_fails : (fuel n : ℕ) (p q : Poly) (k : ℕ) → 0 < fuel → ltb (length (coefs q)) (length (coefs p)) ≡ false → modest (suc n) (division_step n p q) ≡ false → (divide fuel n p q k).good ≡ false
 unfolding by_step
-divide-fails zero n p q k h t m = absurd (omega arith)
-divide-fails (suc fuel) n p q k h t m = ap (λ d. d.good) (divide-by fuel n p q k t ∙ ap (by_step fuel n p q k) m)
+divide_fails zero n p q k h t m = absurd (omega arith)
+divide_fails (suc fuel) n p q k h t m = ap (λ d. d.good) (divide_by fuel n p q k t ∙ ap (by_step fuel n p q k) m)
 
 module _ (n : ℕ) (ps ss : List Monomial) (mark : ℕ) (cells : List ℤ) (few : suc n ≤ 4) where
   pub begun : (dividend : Span) → ss ≡ terms_at dividend cells → Holds dividend mark cells → Dividing n ps ss mark cells (length_terms n ss + 1) (length_terms n ss + 1) 0 dividend mark cells
@@ -122,27 +122,27 @@ module _ (n : ℕ) (ps ss : List Monomial) (mark : ℕ) (cells : List ℤ) (few 
         ltb (length (coefs q)) (length (coefs p)) ≡ false
     goes p q dp dq t =
         le-ltb (length (coefs q)) (length (coefs p))
-        (omega (arith, leb-true (length_terms n ps) (length_terms n (terms_at rest cells1)) t, denoting-laws.length-is n ps p dp, denoting-laws.length-is n (terms_at rest cells1) q dq))
+        (omega (arith, leb-true (length_terms n ps) (length_terms n (terms_at rest cells1)) t, denoting_laws.length_is n ps p dp, denoting_laws.length_is n (terms_at rest cells1) q dq))
 
-    allowed-is : (s : Poly) → Denotes (suc n) ss s → length (coefs s) + 1 ≡ length_terms n ss + 1
-    allowed-is s ds = ap (λ k. k + 1) (sym (denoting-laws.length-is n ss s ds))
+    allowed_is : (s : Poly) → Denotes (suc n) ss s → length (coefs s) + 1 ≡ length_terms n ss + 1
+    allowed_is s ds = ap (λ k. k + 1) (sym (denoting_laws.length_is n ss s ds))
 
     pub step : (count top2 : ℕ) (cells2 : List ℤ) → 0 < fuel → leb (length_terms n ps) (length_terms n (terms_at rest cells1)) ≡ true → mark ≤ length cells1 →
         Packed count (step_terms n ps (terms_at rest cells1)) mark cells1 top2 cells2 →
         Dividing n ps ss mark cells (length_terms n ss + 1) (fuel - 1) (steps + 1) (span mark count) top2 cells2
     step count top2 cells2 f t h k =
-        let new = terms-new count (step_terms n ps (terms_at rest cells1)) mark cells1 top2 cells2 h k in
+        let new = terms_new count (step_terms n ps (terms_at rest cells1)) mark cells1 top2 cells2 h k in
         record {
           means = λ p s dp ds.
               let was = d.means p s dp ds in
               let q = was.0 in
-              let ch = denoting-laws.step-checks n ps (terms_at rest cells1) p q few dp was.1 in (
+              let ch = denoting_laws.step_checks n ps (terms_at rest cells1) p q few dp was.1 in (
                 division_step n p q,
                 subst (λ ts. Denotes (suc n) ts (division_step n p q)) (sym new) (ch.kept k.modest),
-                sym (divide-on fuel n p q steps f (goes p q dp was.1 t) (sym ch.test ∙ k.modest)) ∙ was.2,
+                sym (divide_on fuel n p q steps f (goes p q dp was.1 t) (sym ch.test ∙ k.modest)) ∙ was.2,
               );
           holds = holds-new count (step_terms n ps (terms_at rest cells1)) mark cells1 top2 cells2 h k;
-          untouched = untouched-on mark cells top1 cells1 top2 cells2 d.untouched (grown-untouched (cells_of (step_terms n ps (terms_at rest cells1))) mark cells1 top2 cells2 h k.good.short k.grown);
+          untouched = untouched_on mark cells top1 cells1 top2 cells2 d.untouched (grown-untouched (cells_of (step_terms n ps (terms_at rest cells1))) mark cells1 top2 cells2 h k.good.short k.grown);
           modest = λ _. ap (modest_terms 4) new ∙ k.modest;
           counted = omega (arith, d.counted);
         }
@@ -154,19 +154,19 @@ module _ (n : ℕ) (ps ss : List Monomial) (mark : ℕ) (cells : List ℤ) (few 
           means = λ p s dp ds.
               let was = d.means p s dp ds in
               let q = was.0 in
-              let ch = denoting-laws.step-checks n ps (terms_at rest cells1) p q few dp was.1 in
-              ap (λ a. (divide a n p s 0).good) (allowed-is s ds) ∙ ap (λ x. x.good) (sym was.2) ∙
-              divide-fails fuel n p q steps f (goes p q dp was.1 t) (sym ch.test ∙ m);
-          untouched = untouched-on mark cells top1 cells1 top2 cells2 d.untouched (kept-untouched mark cells1 top2 cells2 k);
-          back = k.same-top;
+              let ch = denoting_laws.step_checks n ps (terms_at rest cells1) p q few dp was.1 in
+              ap (λ a. (divide a n p s 0).good) (allowed_is s ds) ∙ ap (λ x. x.good) (sym was.2) ∙
+              divide_fails fuel n p q steps f (goes p q dp was.1 t) (sym ch.test ∙ m);
+          untouched = untouched_on mark cells top1 cells1 top2 cells2 d.untouched (kept-untouched mark cells1 top2 cells2 k);
+          back = k.same_top;
         }
 
-    pub out-of-fuel : fuel ≤ 0 → Divided n ps ss mark cells steps rest top1 cells1
-    out-of-fuel h =
+    pub out_of_fuel : fuel ≤ 0 → Divided n ps ss mark cells steps rest top1 cells1
+    out_of_fuel h =
         record {
           means = λ p s dp ds.
               let was = d.means p s dp ds in
-              (was.0, was.1, ap (λ a. divide a n p s 0) (allowed-is s ds) ∙ sym was.2 ∙ divide-none fuel n p was.0 steps h);
+              (was.0, was.1, ap (λ a. divide a n p s 0) (allowed_is s ds) ∙ sym was.2 ∙ divide_none fuel n p was.0 steps h);
           holds = d.holds;
           untouched = d.untouched;
           modest = d.modest;
@@ -179,8 +179,8 @@ module _ (n : ℕ) (ps ss : List Monomial) (mark : ℕ) (cells : List ℤ) (few 
               let was = d.means p s dp ds in
               let less : ltb (length (coefs was.0)) (length (coefs p)) ≡ true =
               lt-ltb (length (coefs was.0)) (length (coefs p))
-              (omega (arith, leb-false (length_terms n ps) (length_terms n (terms_at rest cells1)) t, denoting-laws.length-is n ps p dp, denoting-laws.length-is n (terms_at rest cells1) was.0 was.1)) in
-              (was.0, was.1, ap (λ a. divide a n p s 0) (allowed-is s ds) ∙ sym was.2 ∙ divide-stop fuel n p was.0 steps less);
+              (omega (arith, leb-false (length_terms n ps) (length_terms n (terms_at rest cells1)) t, denoting_laws.length_is n ps p dp, denoting_laws.length_is n (terms_at rest cells1) was.0 was.1)) in
+              (was.0, was.1, ap (λ a. divide a n p s 0) (allowed_is s ds) ∙ sym was.2 ∙ divide_stop fuel n p was.0 steps less);
           holds = d.holds;
           untouched = d.untouched;
           modest = d.modest;
@@ -190,7 +190,7 @@ module _ (n : ℕ) (ps ss : List Monomial) (mark : ℕ) (cells : List ℤ) (few 
 small-negated : (n : ℕ) (ts : List Monomial) → small_terms n (neg_terms ts) ≡ small_terms n ts
 unfolding small_terms neg_terms
 small-negated n [] = refl
-small-negated n (m ∷ ms) = ap₂ (λ s t. (ltb s (2 ^ 27) && small_key n m.key) && t) (size-neg m.times) (small-negated n ms)
+small-negated n (m ∷ ms) = ap₂ (λ s t. (ltb s (2 ^ 27) && small_key n m.key) && t) (size_neg m.times) (small-negated n ms)
 
 digits-negated : (ts : List Monomial) → last_digits (neg_terms ts) ≡ last_digits ts
 unfolding last_digits neg_terms
@@ -201,15 +201,15 @@ digits-negated (m ∷ k ∷ ms) = ap (λ w. cond (eqb (m.key / 32) (k.key / 32))
 pub modest-negated : (ts : List Monomial) → modest_terms 4 (neg_terms ts) ≡ modest_terms 4 ts
 modest-negated ts = ap₂ (λ s d. s && leb d 64) (small-negated 4 ts) (digits-negated ts)
 
-pub refused-result : {E : Type 0} (r : Result Quotient E) (n : ℕ) (ps ss : List Monomial) (mark : ℕ) (cells : List ℤ) (top' : ℕ) (cells' : List ℤ) → is_err r ≡ true →
+pub refused_result : {E : Type 0} (r : Result Quotient E) (n : ℕ) (ps ss : List Monomial) (mark : ℕ) (cells : List ℤ) (top' : ℕ) (cells' : List ℤ) → is_err r ≡ true →
     Refused n ps ss mark cells top' cells' → divided r n ps ss mark cells top' cells'
-refused-result (Ok d) n ps ss mark cells top' cells' e f = absurd (let z : ◌≡◌ {A = ℕ} 0 1 = cc in omega arith)
-refused-result (Err _) n ps ss mark cells top' cells' e f = f
+refused_result (Ok d) n ps ss mark cells top' cells' e f = absurd (let z : ◌≡◌ {A = ℕ} 0 1 = cc in omega arith)
+refused_result (Err _) n ps ss mark cells top' cells' e f = f
 
-pub no-remainder : {E : Type 0} (r : Result Span E) (n : ℕ) (h : Sign) (ps ss : List Monomial) (mark : ℕ) (cells : List ℤ) (top' : ℕ) (cells' : List ℤ) → is_err r ≡ true →
+pub no_remainder : {E : Type 0} (r : Result Span E) (n : ℕ) (h : Sign) (ps ss : List Monomial) (mark : ℕ) (cells : List ℤ) (top' : ℕ) (cells' : List ℤ) → is_err r ≡ true →
     NoRemainder n h ps ss mark cells top' cells' → remains r n h ps ss mark cells top' cells'
-no-remainder (Ok d) n h ps ss mark cells top' cells' e f = absurd (let z : ◌≡◌ {A = ℕ} 0 1 = cc in omega arith)
-no-remainder (Err _) n h ps ss mark cells top' cells' e f = f
+no_remainder (Ok d) n h ps ss mark cells top' cells' e f = absurd (let z : ◌≡◌ {A = ℕ} 0 1 = cc in omega arith)
+no_remainder (Err _) n h ps ss mark cells top' cells' e f = f
 
 -- the sign of the remainder
 -- whether it is exchanged, by the parity of the steps
@@ -218,23 +218,23 @@ by_parity t Neg = t
 by_parity t Zero = false
 by_parity t Pos = false
 
-by-parity : (k : ℕ) (h : Sign) → exchanges_sign k h ≡ by_parity (odd k) h
+by_parity_lem : (k : ℕ) (h : Sign) → exchanges_sign k h ≡ by_parity (odd k) h
 unfolding by_parity
-by-parity k Neg = refl
-by-parity k Zero = refl
-by-parity k Pos = refl
+by_parity_lem k Neg = refl
+by_parity_lem k Zero = refl
+by_parity_lem k Pos = refl
 
-exchanged-on : (n : ℕ) (t : Bool) (h : Sign) (q : Poly) → exchanged n t h q ≡ cond (by_parity t h) (negative (suc n) q) q
+exchanged_on : (n : ℕ) (t : Bool) (h : Sign) (q : Poly) → exchanged n t h q ≡ cond (by_parity t h) (negative (suc n) q) q
 unfolding by_parity
-exchanged-on n true Neg q = refl
-exchanged-on n true Zero q = refl
-exchanged-on n true Pos q = refl
-exchanged-on n false Neg q = refl
-exchanged-on n false Zero q = refl
-exchanged-on n false Pos q = refl
+exchanged_on n true Neg q = refl
+exchanged_on n true Zero q = refl
+exchanged_on n true Pos q = refl
+exchanged_on n false Neg q = refl
+exchanged_on n false Zero q = refl
+exchanged_on n false Pos q = refl
 
 exchanged-is : (n k : ℕ) (h : Sign) (q : Poly) (t : Bool) → exchanges_sign k h ≡ t → exchanged n (odd k) h q ≡ cond t (negative (suc n) q) q
-exchanged-is n k h q t e = exchanged-on n (odd k) h q ∙ ap (λ b. cond b (negative (suc n) q) q) (sym (by-parity k h) ∙ e)
+exchanged-is n k h q t e = exchanged_on n (odd k) h q ∙ ap (λ b. cond b (negative (suc n) q) q) (sym (by_parity_lem k h) ∙ e)
 
 outcome : ℕ → Sign → Division → Checked
 outcome n h d = elim d.good [ true ↦ Fine (exchanged n (odd d.steps) h d.rest) | false ↦ TooBig ]
@@ -243,13 +243,13 @@ remainder_by : (n : ℕ) (h : Sign) (p s : Poly) → remainder n h p s ≡ outco
 unfolding outcome
 remainder_by n h p s = refl
 
-outcome-fine : (n : ℕ) (h : Sign) (k : ℕ) (q : Poly) → outcome n h (record { good = true; steps = k; rest = q }) ≡ Fine (exchanged n (odd k) h q)
+outcome_fine : (n : ℕ) (h : Sign) (k : ℕ) (q : Poly) → outcome n h (record { good = true; steps = k; rest = q }) ≡ Fine (exchanged n (odd k) h q)
 unfolding outcome
-outcome-fine n h k q = refl
+outcome_fine n h k q = refl
 
-outcome-big : (n : ℕ) (h : Sign) (d : Division) → d.good ≡ false → outcome n h d ≡ TooBig
+outcome_big : (n : ℕ) (h : Sign) (d : Division) → d.good ≡ false → outcome n h d ≡ TooBig
 unfolding outcome
-outcome-big n h d e = rw (e, outcome)
+outcome_big n h d e = rw (e, outcome)
 
 -- the remainder is what is left
 pub plain-remainder : (n : ℕ) (h : Sign) (ps ss : List Monomial) (mark : ℕ) (cells : List ℤ) (steps : ℕ) (rest : Span) (top' : ℕ) (cells' : List ℤ) → exchanges_sign steps h ≡ false →
@@ -258,7 +258,7 @@ plain-remainder n h ps ss mark cells steps rest top' cells' t d =
     record {
       means = λ p s dp ds.
           let was = d.means p s dp ds in
-          (was.0, was.1, remainder_by n h p s ∙ ap (outcome n h) was.2 ∙ outcome-fine n h steps was.0 ∙ ap Fine (exchanged-is n steps h was.0 false t));
+          (was.0, was.1, remainder_by n h p s ∙ ap (outcome n h) was.2 ∙ outcome_fine n h steps was.0 ∙ ap Fine (exchanged-is n steps h was.0 false t));
       holds = d.holds;
       untouched = d.untouched;
     }
@@ -268,22 +268,22 @@ pub exchanged-remainder : (n : ℕ) (h : Sign) (ps ss : List Monomial) (mark : �
     exchanges_sign steps h ≡ true → mark ≤ length cells1 → Divided n ps ss mark cells steps rest top1 cells1 → Packed count (neg_terms (terms_at rest cells1)) mark cells1 top2 cells2 →
     Remainder n h ps ss mark cells (span mark count) top2 cells2
 exchanged-remainder n h ps ss mark cells steps rest top1 cells1 count top2 cells2 t l d k =
-    let new = terms-new count (neg_terms (terms_at rest cells1)) mark cells1 top2 cells2 l k in
+    let new = terms_new count (neg_terms (terms_at rest cells1)) mark cells1 top2 cells2 l k in
     record {
       means = λ p s dp ds.
           let was = d.means p s dp ds in (
             negative (suc n) was.0,
-            subst (λ ts. Denotes (suc n) ts (negative (suc n) was.0)) (sym new) (denoting-laws.negative-denotes (suc n) (terms_at rest cells1) was.0 was.1),
-            remainder_by n h p s ∙ ap (outcome n h) was.2 ∙ outcome-fine n h steps was.0 ∙ ap Fine (exchanged-is n steps h was.0 true t),
+            subst (λ ts. Denotes (suc n) ts (negative (suc n) was.0)) (sym new) (denoting_laws.negative_denotes (suc n) (terms_at rest cells1) was.0 was.1),
+            remainder_by n h p s ∙ ap (outcome n h) was.2 ∙ outcome_fine n h steps was.0 ∙ ap Fine (exchanged-is n steps h was.0 true t),
           );
       holds = holds-new count (neg_terms (terms_at rest cells1)) mark cells1 top2 cells2 l k;
-      untouched = untouched-on mark cells top1 cells1 top2 cells2 d.untouched (grown-untouched (cells_of (neg_terms (terms_at rest cells1))) mark cells1 top2 cells2 l k.good.short k.grown);
+      untouched = untouched_on mark cells top1 cells1 top2 cells2 d.untouched (grown-untouched (cells_of (neg_terms (terms_at rest cells1))) mark cells1 top2 cells2 l k.good.short k.grown);
     }
 
-pub refused-remainder : (n : ℕ) (h : Sign) (ps ss : List Monomial) (mark : ℕ) (cells : List ℤ) (top' : ℕ) (cells' : List ℤ) → Refused n ps ss mark cells top' cells' →
+pub refused_remainder : (n : ℕ) (h : Sign) (ps ss : List Monomial) (mark : ℕ) (cells : List ℤ) (top' : ℕ) (cells' : List ℤ) → Refused n ps ss mark cells top' cells' →
     NoRemainder n h ps ss mark cells top' cells'
-refused-remainder n h ps ss mark cells top' cells' f =
-    record { means = λ p s dp ds. remainder_by n h p s ∙ outcome-big n h _ (f.means p s dp ds); untouched = f.untouched; back = f.back }
+refused_remainder n h ps ss mark cells top' cells' f =
+    record { means = λ p s dp ds. remainder_by n h p s ∙ outcome_big n h _ (f.means p s dp ds); untouched = f.untouched; back = f.back }
 
 -- an exchanged sign comes after a step
 pub exchanged-steps : (k : ℕ) (h : Sign) → exchanges_sign k h ≡ true → 0 < k
@@ -296,23 +296,23 @@ exchanged-steps (suc k) h e = omega arith
 module _ (n : ℕ) (divisor : Span) (ss : List Monomial) (mark : ℕ) (cells : List ℤ) (few : suc n ≤ 4) (h : Holds divisor mark cells) (fuel steps : ℕ) (rest : Span) (top1 : ℕ) (cells1 : List ℤ)
     (d : Dividing n (terms_at divisor cells) ss mark cells (length_terms n ss + 1) fuel steps rest top1 cells1) where
   pub still : terms_at divisor cells1 ≡ terms_at divisor cells
-  still = terms-kept divisor mark cells top1 cells1 h d.untouched
+  still = terms_kept divisor mark cells top1 cells1 h d.untouched
 
-  test-still : (b : Bool) → b ≡ leb (length_terms n (terms_at divisor cells1)) (length_terms n (terms_at rest cells1)) → leb (length_terms n (terms_at divisor cells)) (length_terms n (terms_at rest cells1)) ≡ b
-  test-still b t = ap (λ ts. leb (length_terms n ts) (length_terms n (terms_at rest cells1))) (sym still) ∙ sym t
+  test_still : (b : Bool) → b ≡ leb (length_terms n (terms_at divisor cells1)) (length_terms n (terms_at rest cells1)) → leb (length_terms n (terms_at divisor cells)) (length_terms n (terms_at rest cells1)) ≡ b
+  test_still b t = ap (λ ts. leb (length_terms n ts) (length_terms n (terms_at rest cells1))) (sym still) ∙ sym t
 
-  pub step-still : (count top2 : ℕ) (cells2 : List ℤ) → 0 < fuel → true ≡ leb (length_terms n (terms_at divisor cells1)) (length_terms n (terms_at rest cells1)) → mark ≤ length cells1 →
+  pub step_still : (count top2 : ℕ) (cells2 : List ℤ) → 0 < fuel → true ≡ leb (length_terms n (terms_at divisor cells1)) (length_terms n (terms_at rest cells1)) → mark ≤ length cells1 →
       Packed count (step_terms n (terms_at divisor cells1) (terms_at rest cells1)) mark cells1 top2 cells2 →
       Dividing n (terms_at divisor cells) ss mark cells (length_terms n ss + 1) (fuel - 1) (steps + 1) (span mark count) top2 cells2
-  step-still count top2 cells2 f t l k =
-      step n (terms_at divisor cells) ss mark cells few fuel steps rest top1 cells1 d count top2 cells2 f (test-still true t) l
+  step_still count top2 cells2 f t l k =
+      step n (terms_at divisor cells) ss mark cells few fuel steps rest top1 cells1 d count top2 cells2 f (test_still true t) l
       (subst (λ ts. Packed count (step_terms n ts (terms_at rest cells1)) mark cells1 top2 cells2) still k)
 
-  pub fails-still : (top2 : ℕ) (cells2 : List ℤ) → 0 < fuel → true ≡ leb (length_terms n (terms_at divisor cells1)) (length_terms n (terms_at rest cells1)) →
+  pub fails_still : (top2 : ℕ) (cells2 : List ℤ) → 0 < fuel → true ≡ leb (length_terms n (terms_at divisor cells1)) (length_terms n (terms_at rest cells1)) →
       modest_terms 4 (step_terms n (terms_at divisor cells1) (terms_at rest cells1)) ≡ false → Kept mark cells1 top2 cells2 → Refused n (terms_at divisor cells) ss mark cells top2 cells2
-  fails-still top2 cells2 f t m k =
-      fails n (terms_at divisor cells) ss mark cells few fuel steps rest top1 cells1 d top2 cells2 f (test-still true t)
+  fails_still top2 cells2 f t m k =
+      fails n (terms_at divisor cells) ss mark cells few fuel steps rest top1 cells1 d top2 cells2 f (test_still true t)
       (subst (λ ts. modest_terms 4 (step_terms n ts (terms_at rest cells1)) ≡ false) still m) k
 
-  pub ended-still : false ≡ leb (length_terms n (terms_at divisor cells1)) (length_terms n (terms_at rest cells1)) → Divided n (terms_at divisor cells) ss mark cells steps rest top1 cells1
-  ended-still t = ended n (terms_at divisor cells) ss mark cells few fuel steps rest top1 cells1 d (test-still false t)
+  pub ended_still : false ≡ leb (length_terms n (terms_at divisor cells1)) (length_terms n (terms_at rest cells1)) → Divided n (terms_at divisor cells) ss mark cells steps rest top1 cells1
+  ended_still t = ended n (terms_at divisor cells) ss mark cells few fuel steps rest top1 cells1 d (test_still false t)

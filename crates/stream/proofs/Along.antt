@@ -15,20 +15,20 @@ along (Stays s) o rest = row_is s o ∷ rest
 along (Crosses s) o rest = row_is s o ∷ row_is Zero o ∷ row_is (flip s) o ∷ rest
 along Lost o rest = row_unknown o ∷ rest
 
-pub between-along : (p q : Known) (o : List Sign) (rest : List Row) → between p q o rest ≡ along (way_between p q) o rest
-between-along (Is Neg) (Is Neg) o rest = refl
-between-along (Is Neg) (Is Zero) o rest = refl
-between-along (Is Neg) (Is Pos) o rest = refl
-between-along (Is Zero) (Is Neg) o rest = refl
-between-along (Is Zero) (Is Zero) o rest = refl
-between-along (Is Zero) (Is Pos) o rest = refl
-between-along (Is Pos) (Is Neg) o rest = refl
-between-along (Is Pos) (Is Zero) o rest = refl
-between-along (Is Pos) (Is Pos) o rest = refl
-between-along (Is s) Unknown o rest = refl
-between-along Unknown (Is s) o rest = refl
-between-along Unknown Unknown o rest = refl
+pub between_along : (p q : Known) (o : List Sign) (rest : List Row) → between p q o rest ≡ along (way_between p q) o rest
+between_along (Is Neg) (Is Neg) o rest = refl
+between_along (Is Neg) (Is Zero) o rest = refl
+between_along (Is Neg) (Is Pos) o rest = refl
+between_along (Is Zero) (Is Neg) o rest = refl
+between_along (Is Zero) (Is Zero) o rest = refl
+between_along (Is Zero) (Is Pos) o rest = refl
+between_along (Is Pos) (Is Neg) o rest = refl
+between_along (Is Pos) (Is Zero) o rest = refl
+between_along (Is Pos) (Is Pos) o rest = refl
+between_along (Is s) Unknown o rest = refl
+between_along Unknown (Is s) o rest = refl
+between_along Unknown Unknown o rest = refl
 
-pub lost-unknown : (p : Known) → way_between p Unknown ≡ Lost
-lost-unknown (Is s) = refl
-lost-unknown Unknown = refl
+pub lost_unknown : (p : Known) → way_between p Unknown ≡ Lost
+lost_unknown (Is s) = refl
+lost_unknown Unknown = refl

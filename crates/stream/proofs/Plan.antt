@@ -6,9 +6,9 @@ use Rattle.field.specs.declared.sign.Sign.TheVariants.{Zero}
 use Rattle.sign_table.specs.Leadings.{Left, Plain, Real, filled}
 use Rattle.stream.specs.Stage.{filled_by, plan_of}
 
-pub plan-suffices : (ls : List Left) (r : List Sign) → filled_by (plan_of ls) r ≡ filled ls r
+pub plan_suffices : (ls : List Left) (r : List Sign) → filled_by (plan_of ls) r ≡ filled ls r
 unfolding filled_by filled map
-plan-suffices [] r = refl
-plan-suffices (Plain s ∷ ls) r = ap {B = List Sign} (λ t. s ∷ t) (plan-suffices ls r)
-plan-suffices (Real p s ∷ ls) [] = ap {B = List Sign} (λ t. Zero ∷ t) (plan-suffices ls [])
-plan-suffices (Real p s ∷ ls) (u ∷ r) = ap {B = List Sign} (λ t. u ∷ t) (plan-suffices ls r)
+plan_suffices [] r = refl
+plan_suffices (Plain s ∷ ls) r = ap {B = List Sign} (λ t. s ∷ t) (plan_suffices ls r)
+plan_suffices (Real p s ∷ ls) [] = ap {B = List Sign} (λ t. Zero ∷ t) (plan_suffices ls [])
+plan_suffices (Real p s ∷ ls) (u ∷ r) = ap {B = List Sign} (λ t. u ∷ t) (plan_suffices ls r)

@@ -10,7 +10,7 @@ use Rattle.terms.specs.LeadingTerms.{derivative_terms}
 use Rattle.terms.specs.ModestTerms.{modest_terms}
 use Rattle.storage.specs.Storing.{Packed}
 use Rattle.storage.specs.Denoting.{Denotes, Checks}
-use Rattle.storage.proofs.Denoting.{denoting-laws}
+use Rattle.storage.proofs.Denoting.{denoting_laws}
 use Rattle.stacks.specs.Written.{Written}
 use Rattle.stacks.specs.Slots.{slot_in}
 use Rattle.stacks.specs.Memories.{AllHold, front_poly}
@@ -32,7 +32,7 @@ below-kept new cells after top top' g h =
     sym (take-take top top' after l) ∙ ap (take top) g.stands ∙ take_at (take top cells) new top (length-take-le top cells h)
 
 checks : (n : ℕ) (slots : List ℤ) (slot count : ℕ) → n < 4 → AllHold n slots → Checks (suc n) (derivative_terms n (front_terms slots slot count)) (derivative n (front_poly n slots slot count))
-checks n slots slot count l h = denoting-laws.derivative-checks n (front_terms slots slot count) (front_poly n slots slot count) l (front-denotes n slots slot count h)
+checks n slots slot count l h = denoting_laws.derivative_checks n (front_terms slots slot count) (front_poly n slots slot count) l (front-denotes n slots slot count h)
 
 pub derived : (n : ℕ) (slots : List ℤ) (slot count to : ℕ) (after : List ℤ) (ts : List Monomial) (len top : ℕ) (cells : List ℤ) (top' : ℕ) (packed vals : List ℤ) → n < 4 → AllHold n slots →
     ts ≡ derivative_terms n (front_terms slots slot count) → Packed len ts top cells top' packed → top ≤ length cells → vals ≡ take len (drop top packed) →
@@ -47,13 +47,13 @@ derived n slots slot count to after ts len top cells top' packed vals l h e p r 
       cells = cells_of ts;
       holds = slot_laws.holds n (cells_of ts) d p.good denotes;
       is = slot_laws.spelt_is (suc n) (monomials_of (cells_of ts)) d denotes;
-      modest-is = sym k.test ∙ m;
+      modest_is = sym k.test ∙ m;
       written = subst (λ z. Written slot_in to z slots after) is w;
     }
 
-pub not-derived : (n : ℕ) (slots : List ℤ) (slot count : ℕ) (ts : List Monomial) → n < 4 → AllHold n slots → ts ≡ derivative_terms n (front_terms slots slot count) → modest_terms 4 ts ≡ false →
+pub not_derived : (n : ℕ) (slots : List ℤ) (slot count : ℕ) (ts : List Monomial) → n < 4 → AllHold n slots → ts ≡ derivative_terms n (front_terms slots slot count) → modest_terms 4 ts ≡ false →
     modest (suc n) (derivative n (front_poly n slots slot count)) ≡ false
-not-derived n slots slot count ts l h e m = sym (checks n slots slot count l h).test ∙ ap (modest_terms 4) (sym e) ∙ m
+not_derived n slots slot count ts l h e m = sym (checks n slots slot count l h).test ∙ ap (modest_terms 4) (sym e) ∙ m
 
 pub length-cells : (ts : List Monomial) → length (cells_of ts) ≡ length ts
 unfolding cells_of
@@ -66,7 +66,7 @@ pub pushed-loaded : (n : ℕ) (slots : List ℤ) (slot count : ℕ) (new : List 
 pushed-loaded n slots slot count new from top cells top' after h f e r g =
     let same : take (length new) (drop from after) ≡ new = ap (λ k. take (length new) (drop k after)) f ∙ pushed-part new cells after top top' (length new) g refl r in
     record {
-      holds = record { below = omega (arith, g.higher); good = subst Stored (sym (same ∙ e)) (slot_laws.front-holds n (slot_in slots slot) count (h slot)).stored };
+      holds = record { below = omega (arith, g.higher); good = subst Stored (sym (same ∙ e)) (slot_laws.front_holds n (slot_in slots slot) count (h slot)).stored };
       same = same ∙ e;
       below = below-kept new cells after top top' g r;
       long = g.long;
@@ -74,4 +74,4 @@ pushed-loaded n slots slot count new from top cells top' after h f e r g =
     }
 
 pub front-few : (n : ℕ) (slots : List ℤ) (slot count : ℕ) (new : List ℤ) → AllHold n slots → new ≡ take count (slot_in slots slot) → length new ≤ 64
-front-few n slots slot count new h e = subst (λ z. length z ≤ 64) (sym e) (slot_laws.front-holds n (slot_in slots slot) count (h slot)).stored.short
+front-few n slots slot count new h e = subst (λ z. length z ≤ 64) (sym e) (slot_laws.front_holds n (slot_in slots slot) count (h slot)).stored.short

@@ -12,7 +12,7 @@ use Rattle.machine.specs.Stacks as stack
 use Rattle.machine.specs.Stacks.{Agree, Sound, Untouched, passed, signed, with_one_fact}
 use Rattle.machine.specs.Theorems.{Advances, nothing_more}
 use Rattle.machine.specs.Counts.{noted}
-use Rattle.machine.proofs.Advances.{stacks-mirror}
+use Rattle.machine.proofs.Advances.{stacks_mirror}
 use Rattle.question.specs.declared.tree.Tree.{Tree}
 use Rattle.stacks.specs.declared.marks.Marks.{Marks}
 use Rattle.stacks.specs.declared.marks.Branch.{Branch}
@@ -44,15 +44,15 @@ agree n trees c lefts facts questions m k l f q =
       questions = λ i h. ap (question_from n trees c.slots) (q i h);
     }
 
-pub moves-zero : (n : ℕ) (c : Cells) (m : Marks) (k : ℕ) (lefts : List ℤ) (r : Marks) → 0 < m.looks → 0 < m.ahead → is_zero (current_poly n c.slots m) ≡ true →
+pub moves_zero : (n : ℕ) (c : Cells) (m : Marks) (k : ℕ) (lefts : List ℤ) (r : Marks) → 0 < m.looks → 0 < m.ahead → is_zero (current_poly n c.slots m) ≡ true →
     PassesZero n c m lefts r → Moves n c (facing_at m k) (rewritten c lefts c.facts c.questions) (facing_at r k) 0
-moves-zero n c m k lefts r looks ahead z p trees run sound =
+moves_zero n c m k lefts r looks ahead z p trees run sound =
     let new = memory_of n trees (rewritten c lefts c.facts c.questions) in
     let next = poly_of n (slot_in c.slots (m.base + (m.done + 1))) in
     let done : m.done + 1 ≡ suc m.done = omega arith in
     let untouched : Untouched new (passed next (marks_from n c.slots m)) = λ h. ap (λ d. poly_of n (slot_in c.slots (m.base + d))) done in
     subst (λ x. Advances run n (memory_of n trees c) (stack.Facing (marks_from n c.slots m) k) new (stack.Facing x k) 0 nothing_more) (sym p.marks)
-    (stacks-mirror.passes-zero run n (memory_of n trees c) new (marks_from n c.slots m) k sound
+    (stacks_mirror.passes_zero run n (memory_of n trees c) new (marks_from n c.slots m) k sound
     (agree n trees c lefts c.facts c.questions m k p.kept (λ i h. refl) (λ i h. refl)) looks ahead z p.written next untouched)
 
 pub moves-known : (n : ℕ) (c : Cells) (m : Marks) (k : ℕ) (s : Sign) (lefts : List ℤ) (r : Marks) → 0 < m.looks → 0 < m.ahead → is_zero (current_poly n c.slots m) ≡ false →
@@ -60,7 +60,7 @@ pub moves-known : (n : ℕ) (c : Cells) (m : Marks) (k : ℕ) (s : Sign) (lefts 
 moves-known n c m k s lefts r looks ahead z t p trees run sound =
     let new = memory_of n trees (rewritten c lefts c.facts c.questions) in
     subst (λ x. Advances run n (memory_of n trees c) (stack.Facing (marks_from n c.slots m) k) new (stack.Facing x k) 0 nothing_more) (sym p.marks)
-    (stacks-mirror.passes-known run n (memory_of n trees c) new (marks_from n c.slots m) k sound
+    (stacks_mirror.passes_known run n (memory_of n trees c) new (marks_from n c.slots m) k sound
     (agree n trees c lefts c.facts c.questions m k p.kept (λ i h. refl) (λ i h. refl)) looks ahead z s (sym t) p.next (p.written trees c.facts c.questions))
 
 pub explored : (n : ℕ) (c : Cells) (m : Marks) (k : ℕ) (b : Branch) (s : Sign) (lefts facts questions : List ℤ) (d : Cells) (one r : Marks) →
@@ -71,11 +71,11 @@ explored n c m k b s lefts facts questions d one r q f o p e l =
     subst (λ d. Explores n c m k b s d r) (sym e)
     (record { question = q; fact = f; settles = subst (λ m. Settles n (rewritten c c.lefts facts questions) m s lefts r) o p; rest = refl; long = l })
 
-pub explored-slots : (n : ℕ) (c : Cells) (m : Marks) (k : ℕ) (b : Branch) (s : Sign) (d : Cells) (r : Marks) → Explores n c m k b s d r → d.slots ≡ c.slots
-explored-slots n c m k b s d r x = ap (λ e. e.slots) x.rest
+pub explored_slots : (n : ℕ) (c : Cells) (m : Marks) (k : ℕ) (b : Branch) (s : Sign) (d : Cells) (r : Marks) → Explores n c m k b s d r → d.slots ≡ c.slots
+explored_slots n c m k b s d r x = ap (λ e. e.slots) x.rest
 
-pub explored-long : (n : ℕ) (c : Cells) (m : Marks) (k : ℕ) (b : Branch) (s : Sign) (d : Cells) (r : Marks) → Explores n c m k b s d r → SameLengths c d
-explored-long n c m k b s d r x = record { lefts = x.long; facts = x.fact.long; questions = x.question.long }
+pub explored_long : (n : ℕ) (c : Cells) (m : Marks) (k : ℕ) (b : Branch) (s : Sign) (d : Cells) (r : Marks) → Explores n c m k b s d r → SameLengths c d
+explored_long n c m k b s d r x = record { lefts = x.long; facts = x.fact.long; questions = x.question.long }
 
 one-fact : (n : ℕ) (slots : List ℤ) (m : Marks) → marks_from n slots (one_fact m) ≡ with_one_fact (marks_from n slots m)
 one-fact n slots m =
@@ -96,7 +96,7 @@ moves-asked n c m k d r looks ahead z t x =
     let marks : signed p.next Pos (with_one_fact old) ≡ marks_from n c.slots r = ap (signed p.next Pos) (sym (one-fact n c.slots m)) ∙ sym p.marks in
     let both : stack.Facing (signed p.next Pos (with_one_fact old)) (suc k) ≡ stack.Facing (marks_from n c.slots r) (k + 1) = ap₂ stack.Facing marks more in
     subst (λ y. Advances run n (memory_of n trees c) (stack.Facing old k) new y 1 nothing_more) both
-    (stacks-mirror.asks run n (memory_of n trees c) new old k sound (agree n trees c lefts facts questions m k p.kept x.fact.under x.question.under) looks ahead z t
+    (stacks_mirror.asks run n (memory_of n trees c) new old k sound (agree n trees c lefts facts questions m k p.kept x.fact.under x.question.under) looks ahead z t
     (ap (question_from n trees c.slots) x.question.there) (ap (fact_from n c.slots) x.fact.there) p.next (p.written trees facts questions)))
 
 -- the last question's branch above is finished
@@ -113,7 +113,7 @@ returns-above n c t q k d r e b x trees run sound =
     ap (question_from n trees c.slots) (sym e) ∙ ap (λ b. stack.Pending old (exploring trees b)) b in
     subst (λ y. Advances run n (memory_of n trees c) (stack.Holding (trees t) (suc k)) (memory_of n trees y) (stack.Facing (marks_from n y.slots r) (suc k)) 0 nothing_more) (sym x.rest)
     (subst (λ y. Advances run n (memory_of n trees c) (stack.Holding (trees t) (suc k)) new (stack.Facing y (suc k)) 0 nothing_more) marks
-    (stacks-mirror.returns-above run n (memory_of n trees c) new (trees t) old k sound was
+    (stacks_mirror.returns-above run n (memory_of n trees c) new (trees t) old k sound was
     (agree n trees c d.lefts d.facts d.questions m k p.kept x.fact.under x.question.under)
     (ap (question_from n trees c.slots) x.question.there) (ap (fact_from n c.slots) x.fact.there)))
 
@@ -130,24 +130,24 @@ returns-at n c t above q k d r e b x trees run sound =
     ap (question_from n trees c.slots) (sym e) ∙ ap (λ b. stack.Pending old (exploring trees b)) b in
     subst (λ y. Advances run n (memory_of n trees c) (stack.Holding (trees t) (suc k)) (memory_of n trees y) (stack.Facing (marks_from n y.slots r) (suc k)) 0 nothing_more) (sym x.rest)
     (subst (λ y. Advances run n (memory_of n trees c) (stack.Holding (trees t) (suc k)) new (stack.Facing y (suc k)) 0 nothing_more) marks
-    (stacks-mirror.returns-at run n (memory_of n trees c) new (trees t) (trees above) old k sound was
+    (stacks_mirror.returns-at run n (memory_of n trees c) new (trees t) (trees above) old k sound was
     (agree n trees c d.lefts d.facts d.questions m k p.kept x.fact.under x.question.under)
     (ap (question_from n trees c.slots) x.question.there) (ap (fact_from n c.slots) x.fact.there) p.next (p.written trees d.facts d.questions)))
 
 -- the same by how many questions are open
-pub returned-above : (n : ℕ) (c : Cells) (t : Tree) (q : Question) (pending : ℕ) (d : Cells) (r : Marks) → 0 < pending → q ≡ question_in c.questions (pending - 1) → q.branch ≡ Above →
+pub returned_above : (n : ℕ) (c : Cells) (t : Tree) (q : Question) (pending : ℕ) (d : Cells) (r : Marks) → 0 < pending → q ≡ question_in c.questions (pending - 1) → q.branch ≡ Above →
     Explores n c q.marks (pending - 1) (At t) Zero d r → (trees : Tree → sign.Tree) (run : Run) → Sound (memory_of n trees c) (stack.Holding (trees t) pending) →
     Advances run n (memory_of n trees c) (stack.Holding (trees t) pending) (memory_of n trees d) (stack.Facing (marks_from n d.slots r) pending) 0 nothing_more
-returned-above n c t q pending d r l e b x trees run =
+returned_above n c t q pending d r l e b x trees run =
     let j : suc (pending - 1) ≡ pending = omega arith in
     subst (λ k. Sound (memory_of n trees c) (stack.Holding (trees t) k) →
     Advances run n (memory_of n trees c) (stack.Holding (trees t) k) (memory_of n trees d) (stack.Facing (marks_from n d.slots r) k) 0 nothing_more) j
     (returns-above n c t q (pending - 1) d r e b x trees run)
 
-pub returned-at : (n : ℕ) (c : Cells) (t above : Tree) (q : Question) (pending : ℕ) (d : Cells) (r : Marks) → 0 < pending → q ≡ question_in c.questions (pending - 1) → q.branch ≡ At above →
+pub returned_at : (n : ℕ) (c : Cells) (t above : Tree) (q : Question) (pending : ℕ) (d : Cells) (r : Marks) → 0 < pending → q ≡ question_in c.questions (pending - 1) → q.branch ≡ At above →
     Explores n c q.marks (pending - 1) (Below t above) Neg d r → (trees : Tree → sign.Tree) (run : Run) → Sound (memory_of n trees c) (stack.Holding (trees t) pending) →
     Advances run n (memory_of n trees c) (stack.Holding (trees t) pending) (memory_of n trees d) (stack.Facing (marks_from n d.slots r) pending) 0 nothing_more
-returned-at n c t above q pending d r l e b x trees run =
+returned_at n c t above q pending d r l e b x trees run =
     let j : suc (pending - 1) ≡ pending = omega arith in
     subst (λ k. Sound (memory_of n trees c) (stack.Holding (trees t) k) →
     Advances run n (memory_of n trees c) (stack.Holding (trees t) k) (memory_of n trees d) (stack.Facing (marks_from n d.slots r) k) 0 nothing_more) j
@@ -160,7 +160,7 @@ finishes n c t pending l at above b trees run =
     let p = leading n (current_poly n c.slots m) in
     subst (λ k. Sound (memory_of n trees c) (stack.Holding (trees t) k) →
     Advances run n (memory_of n trees c) (stack.Holding (trees t) k) (memory_of n trees c) (stack.Holding (run.join p (trees t) (trees at) (trees above)) (pending - 1)) 0 (noted n p)) j
-    (λ sound. stacks-mirror.returns-below run n (memory_of n trees c) (trees t) (trees at) (trees above) (marks_from n c.slots m) (pending - 1) sound
+    (λ sound. stacks_mirror.returns-below run n (memory_of n trees c) (trees t) (trees at) (trees above) (marks_from n c.slots m) (pending - 1) sound
     (ap (λ b. stack.Pending (marks_from n c.slots m) (exploring trees b)) b))
 
 pub begins : (n : ℕ) (c : Cells) (size : ℕ) (count : ℕ) → count ≡ length (slot_in c.slots 0) →
@@ -168,4 +168,4 @@ pub begins : (n : ℕ) (c : Cells) (size : ℕ) (count : ℕ) → count ≡ leng
 begins n c size count e trees ps first =
     let slot = slot_in c.slots 0 in
     let whole : take count slot ≡ slot = take_all count slot (omega arith) in
-    stacks-mirror.begins (memory_of n trees c) ps (poly_of n (take count slot)) size first (λ h. ap (poly_of n) whole)
+    stacks_mirror.begins (memory_of n trees c) ps (poly_of n (take count slot)) size first (λ h. ap (poly_of n) whole)

@@ -5,7 +5,7 @@ use Rattle.field.specs.declared.sign.Sign.{Sign}
 use Rattle.poly.specs.Poly.{Poly}
 use Rattle.poly.specs.Leading.{degree}
 use Rattle.terms.specs.LeadingTerms.{degree_terms}
-use Rattle.storage.proofs.Denoting.{denoting-laws}
+use Rattle.storage.proofs.Denoting.{denoting_laws}
 use Rattle.sign_table.specs.Table.{poly_of, highest, none_left}
 use Rattle.sign_table.specs.Leadings.{Left, Plain, Real, reals, turned_round}
 use Rattle.machine.specs.Stacks.{back, forth}
@@ -23,16 +23,16 @@ turned f zero j = let e : j ≡ zero + j = omega arith in ap (forth f 0) e
 turned f (suc k) j = let e : k + suc j ≡ suc k + j = omega arith in turned f k (suc j) ∙ ap (forth f 0) e
 
 -- from the first to the last
-pub turned-forth : (f : ℕ → Left) (k : ℕ) → turned_round (back f k) [] ≡ forth f 0 k
-turned-forth f k =
+pub turned_forth : (f : ℕ → Left) (k : ℕ) → turned_round (back f k) [] ≡ forth f 0 k
+turned_forth f k =
     let e : k + 0 ≡ k = omega arith in
     ap (turned_round (back f k)) (none f k) ∙ turned f k 0 ∙ ap (forth f 0) e
   where
     none : (f : ℕ → Left) (k : ℕ) → [] ≡ forth f k 0
     none f k = unfold forth in refl
 
-forth-more : (f : ℕ → Left) (i k : ℕ) → i < k → forth f i (k - i) ≡ f i ∷ forth f (i + 1) (k - (i + 1))
-forth-more f i k h =
+forth_more : (f : ℕ → Left) (i k : ℕ) → i < k → forth f i (k - i) ≡ f i ∷ forth f (i + 1) (k - (i + 1))
+forth_more f i k h =
     let e : k - i ≡ suc (k - (i + 1)) = omega arith in
     let j : suc i ≡ i + 1 = omega arith in
     ap (forth f i) e ∙ cons (k - (i + 1)) ∙ ap (λ a. f i ∷ forth f a (k - (i + 1))) j
@@ -43,31 +43,31 @@ forth-more f i k h =
 reals-plain : (s : Sign) (ls : List Left) → reals (Plain s ∷ ls) ≡ reals ls
 reals-plain s ls = unfold reals in refl
 
-reals-real : (p : Poly) (s : Sign) (ls : List Left) → reals (Real p s ∷ ls) ≡ Real p s ∷ reals ls
-reals-real p s ls = unfold reals in refl
+reals_real : (p : Poly) (s : Sign) (ls : List Left) → reals (Real p s ∷ ls) ≡ Real p s ∷ reals ls
+reals_real p s ls = unfold reals in refl
 
-left-plain : (k : ℕ) (p : Poly) (s : Sign) → k ≡ 0 → left_with k p s ≡ Plain s
-left-plain zero p s e = refl
-left-plain (suc k) p s e = let z : ◌≡◌ {A = ℕ} 0 1 = omega arith in absurd (omega arith)
+left_plain : (k : ℕ) (p : Poly) (s : Sign) → k ≡ 0 → left_with k p s ≡ Plain s
+left_plain zero p s e = refl
+left_plain (suc k) p s e = let z : ◌≡◌ {A = ℕ} 0 1 = omega arith in absurd (omega arith)
 
-left-real : (k : ℕ) (p : Poly) (s : Sign) → 0 < k → left_with k p s ≡ Real p s
-left-real zero p s h = absurd (omega arith)
-left-real (suc k) p s h = refl
+left_real : (k : ℕ) (p : Poly) (s : Sign) → 0 < k → left_with k p s ≡ Real p s
+left_real zero p s h = absurd (omega arith)
+left_real (suc k) p s h = refl
 
 pub plain-passed : (n : ℕ) (c : Cells) (m : Marks) (i : ℕ) → i < m.done → (left_in c.lefts (m.base + i)).count ≡ 0 → reals_from n c m (i + 1) ≡ reals_from n c m i
 plain-passed n c m i h z =
     let l = left_in c.lefts (m.base + i) in
     let p = front_poly n c.slots (m.base + i) l.count in
     let rest = forth (table_left n c m) (i + 1) (m.done - (i + 1)) in
-    sym (ap reals (forth-more (table_left n c m) i m.done h) ∙ ap (λ v. reals (v ∷ rest)) (left-plain l.count p l.sign z) ∙ reals-plain l.sign rest)
+    sym (ap reals (forth_more (table_left n c m) i m.done h) ∙ ap (λ v. reals (v ∷ rest)) (left_plain l.count p l.sign z) ∙ reals-plain l.sign rest)
 
-pub real-here : (n : ℕ) (c : Cells) (m : Marks) (i : ℕ) → i < m.done → 0 < (left_in c.lefts (m.base + i)).count → reals_from n c m i ≡ table_left n c m i ∷ reals_from n c m (i + 1)
-real-here n c m i h z =
+pub real_here : (n : ℕ) (c : Cells) (m : Marks) (i : ℕ) → i < m.done → 0 < (left_in c.lefts (m.base + i)).count → reals_from n c m i ≡ table_left n c m i ∷ reals_from n c m (i + 1)
+real_here n c m i h z =
     let l = left_in c.lefts (m.base + i) in
     let p = front_poly n c.slots (m.base + i) l.count in
     let rest = forth (table_left n c m) (i + 1) (m.done - (i + 1)) in
-    let e = left-real l.count p l.sign z in
-    ap reals (forth-more (table_left n c m) i m.done h) ∙ ap (λ v. reals (v ∷ rest)) e ∙ reals-real p l.sign rest ∙ ap (λ v. v ∷ reals rest) (sym e)
+    let e = left_real l.count p l.sign z in
+    ap reals (forth_more (table_left n c m) i m.done h) ∙ ap (λ v. reals (v ∷ rest)) e ∙ reals_real p l.sign rest ∙ ap (λ v. v ∷ reals rest) (sym e)
 
 pub none_after : (n : ℕ) (c : Cells) (m : Marks) → reals_from n c m m.done ≡ []
 none_after n c m = let e : m.done - m.done ≡ 0 = omega arith in ap (λ k. reals (forth (table_left n c m) m.done k)) e ∙ none
@@ -75,15 +75,15 @@ none_after n c m = let e : m.done - m.done ≡ 0 = omega arith in ap (λ k. real
     none : reals (forth (table_left n c m) m.done 0) ≡ []
     none = unfold reals forth in refl
 
-poly-of : (k : ℕ) (p : Poly) (s : Sign) → 0 < k → poly_of (left_with k p s) ≡ p
-poly-of k p s h = ap poly_of (left-real k p s h)
+poly_of_lem : (k : ℕ) (p : Poly) (s : Sign) → 0 < k → poly_of (left_with k p s) ≡ p
+poly_of_lem k p s h = ap poly_of (left_real k p s h)
 
-pub degree-is : (n : ℕ) (c : Cells) (m : Marks) (i : ℕ) → AllHold n c.slots → 0 < (left_in c.lefts (m.base + i)).count →
+pub degree_is : (n : ℕ) (c : Cells) (m : Marks) (i : ℕ) → AllHold n c.slots → 0 < (left_in c.lefts (m.base + i)).count →
     degree_terms n (front_terms c.slots (m.base + i) (left_in c.lefts (m.base + i)).count) ≡ degree (poly_of (table_left n c m i))
-degree-is n c m i h r =
+degree_is n c m i h r =
     let l = left_in c.lefts (m.base + i) in
     let p = front_poly n c.slots (m.base + i) l.count in
-    denoting-laws.degree-is n (front_terms c.slots (m.base + i) l.count) p (front-denotes n c.slots (m.base + i) l.count h) ∙ ap degree (sym (poly-of l.count p l.sign r))
+    denoting_laws.degree_is n (front_terms c.slots (m.base + i) l.count) p (front-denotes n c.slots (m.base + i) l.count h) ∙ ap degree (sym (poly_of_lem l.count p l.sign r))
 
 pub highest-start : (n : ℕ) (c : Cells) (m : Marks) (first i d : ℕ) → NextReal c m 0 first → first < m.done → NextReal c m (first + 1) i → first + 1 ≤ i →
     d ≡ degree (poly_of (table_left n c m first)) → Highest n c m 1 i (record { index = first; place = 0; degree = d })
@@ -91,28 +91,28 @@ highest-start n c m first i d a h b l e =
     record {
       first = table_left n c m first;
       others = reals_from n c m (first + 1);
-      all = sym (a.same n) ∙ real-here n c m first h (a.real h);
+      all = sym (a.same n) ∙ real_here n c m first h (a.real h);
       best = ap₂ (λ k rest. highest 1 0 k rest) (sym e) (sym (b.same n));
       front = table_left n c m first ∷ [];
       parted = ap (λ rest. table_left n c m first ∷ rest) (sym (b.same n));
       counted = refl;
       here = refl;
-      place-bound = omega arith;
-      index-bound = h;
+      place_bound = omega arith;
+      index_bound = h;
       few = omega arith;
     }
 
-highest-cons : (count b d : ℕ) (l : Left) (ls : List Left) (t : Bool) → ltb d (degree (poly_of l)) ≡ t →
+highest_cons : (count b d : ℕ) (l : Left) (ls : List Left) (t : Bool) → ltb d (degree (poly_of l)) ≡ t →
     highest count b d (l ∷ ls) ≡ (elim t as (λ _. ℕ) [ true ↦ highest (count + 1) count (degree (poly_of l)) ls | false ↦ highest (count + 1) b d ls ])
 unfolding highest
-highest-cons count b d l ls t e = ap (λ t. elim t as (λ _. ℕ) [ true ↦ highest (count + 1) count (degree (poly_of l)) ls | false ↦ highest (count + 1) b d ls ]) e
+highest_cons count b d l ls t e = ap (λ t. elim t as (λ _. ℕ) [ true ↦ highest (count + 1) count (degree (poly_of l)) ls | false ↦ highest (count + 1) b d ls ]) e
 
 pub highest-next : (n : ℕ) (c : Cells) (m : Marks) (count i : ℕ) (t : Top) (j : ℕ) (u : Top) → Highest n c m count i t → i < m.done → 0 < (left_in c.lefts (m.base + i)).count →
     u ≡ higher_of n c m t i count → NextReal c m (i + 1) j → i + 1 ≤ j → Highest n c m (count + 1) j u
 highest-next n c m count i t j u h l r e b k =
     let v = table_left n c m i in
     let rest = reals_from n c m (i + 1) in
-    let from : reals_from n c m i ≡ v ∷ rest = real-here n c m i l r in
+    let from : reals_from n c m i ≡ v ∷ rest = real_here n c m i l r in
     subst (Highest n c m (count + 1) j) (sym e) (by (ltb t.degree (degree (poly_of v))) refl from)
   where
     same : (from : reals_from n c m i ≡ table_left n c m i ∷ reals_from n c m (i + 1)) → h.first ∷ h.others ≡ (h.front ++ table_left n c m i ∷ []) ++ reals_from n c m j
@@ -129,14 +129,14 @@ highest-next n c m count i t j u h l r e b k =
           first = h.first;
           others = h.others;
           all = h.all;
-          best = h.best ∙ ap (highest count t.place t.degree) from ∙ highest-cons count t.place t.degree (table_left n c m i) (reals_from n c m (i + 1)) true x ∙
+          best = h.best ∙ ap (highest count t.place t.degree) from ∙ highest_cons count t.place t.degree (table_left n c m i) (reals_from n c m (i + 1)) true x ∙
               ap (highest (count + 1) count (degree (poly_of (table_left n c m i)))) (sym (b.same n));
           front = h.front ++ table_left n c m i ∷ [];
           parted = same from;
           counted = longer;
           here = get_or_at h.front (table_left n c m i) [] none_left count h.counted;
-          place-bound = omega arith;
-          index-bound = l;
+          place_bound = omega arith;
+          index_bound = l;
           few = omega (arith, h.few);
         }
     by false x from =
@@ -144,26 +144,26 @@ highest-next n c m count i t j u h l r e b k =
           first = h.first;
           others = h.others;
           all = h.all;
-          best = h.best ∙ ap (highest count t.place t.degree) from ∙ highest-cons count t.place t.degree (table_left n c m i) (reals_from n c m (i + 1)) false x ∙
+          best = h.best ∙ ap (highest count t.place t.degree) from ∙ highest_cons count t.place t.degree (table_left n c m i) (reals_from n c m (i + 1)) false x ∙
               ap (highest (count + 1) t.place t.degree) (sym (b.same n));
           front = h.front ++ table_left n c m i ∷ [];
           parted = same from;
           counted = longer;
-          here = get_or_append_left h.front (table_left n c m i ∷ []) none_left t.place (omega (arith, h.place-bound, h.counted)) ∙ h.here;
-          place-bound = omega (arith, h.place-bound);
-          index-bound = h.index-bound;
+          here = get_or_append_left h.front (table_left n c m i ∷ []) none_left t.place (omega (arith, h.place_bound, h.counted)) ∙ h.here;
+          place_bound = omega (arith, h.place_bound);
+          index_bound = h.index_bound;
           few = omega (arith, h.few);
         }
 
-pub highest-found : (n : ℕ) (c : Cells) (m : Marks) (count i : ℕ) (t : Top) → Highest n c m count i t → i ≡ m.done → FoundHighest n c m (Some t)
-highest-found n c m count i t h e =
+pub highest_found : (n : ℕ) (c : Cells) (m : Marks) (count i : ℕ) (t : Top) → Highest n c m count i t → i ≡ m.done → FoundHighest n c m (Some t)
+highest_found n c m count i t h e =
     let none : reals_from n c m i ≡ [] = ap (reals_from n c m) e ∙ none_after n c m in (
       h.first,
       h.others,
       h.all,
       sym (h.best ∙ ap (highest count t.place t.degree) none ∙ last count t.place t.degree),
-      ap (λ z. get_or z t.place none_left) h.parted ∙ get_or_append_left h.front (reals_from n c m i) none_left t.place (omega (arith, h.place-bound, h.counted)) ∙ h.here,
-      h.index-bound,
+      ap (λ z. get_or z t.place none_left) h.parted ∙ get_or_append_left h.front (reals_from n c m i) none_left t.place (omega (arith, h.place_bound, h.counted)) ∙ h.here,
+      h.index_bound,
     )
   where
     last : (count b d : ℕ) → highest count b d [] ≡ b

@@ -10,7 +10,7 @@ use Rattle.terms.specs.Monomial.{Monomial}
 use Rattle.terms.specs.Cells.{monomials_of}
 use Rattle.terms.specs.LeadingTerms.{degree_terms, prefix_terms, last_key, count_below, leading_key}
 use Rattle.packed.proofs.Leading.{take-monomials}
-use Rattle.storage.proofs.Denoting.{denoting-laws}
+use Rattle.storage.proofs.Denoting.{denoting_laws}
 use Rattle.sign_table.specs.Leadings as table
 use Rattle.sign_table.specs.Leadings.{left_of}
 use Rattle.machine.specs.Stacks.{Marked, less_one, passed}
@@ -37,8 +37,8 @@ take-length (suc j) [] = refl
 take-length (suc j) (m ∷ ts) = ap (λ l. m ∷ l) (take-length j ts)
 
 -- fewer monomials of the front
-shorter-terms : (n : ℕ) (slots : List ℤ) (i count : ℕ) → front_terms slots i (length (prefix_terms n (front_terms slots i count))) ≡ prefix_terms n (front_terms slots i count)
-shorter-terms n slots i count =
+shorter_terms : (n : ℕ) (slots : List ℤ) (i count : ℕ) → front_terms slots i (length (prefix_terms n (front_terms slots i count))) ≡ prefix_terms n (front_terms slots i count)
+shorter_terms n slots i count =
     let all = monomials_of (slot_in slots i) in
     let ts = front_terms slots i count in
     let e : ts ≡ take count all = take-monomials (slot_in slots i) count in
@@ -52,14 +52,14 @@ shorter-terms n slots i count =
 pub shorter-poly : (n : ℕ) (slots : List ℤ) (i count : ℕ) → AllHold n slots →
     front_poly n slots i (length (prefix_terms n (front_terms slots i count))) ≡ without_leading (front_poly n slots i count)
 shorter-poly n slots i count h =
-    ap (spelt (suc n)) (shorter-terms n slots i count) ∙
+    ap (spelt (suc n)) (shorter_terms n slots i count) ∙
     slot_laws.spelt_is (suc n) (prefix_terms n (front_terms slots i count)) (without_leading (front_poly n slots i count))
-    (denoting-laws.without-leading-denotes n (front_terms slots i count) (front_poly n slots i count) (front-denotes n slots i count h))
+    (denoting_laws.without_leading_denotes n (front_terms slots i count) (front_poly n slots i count) (front-denotes n slots i count h))
 
-pub settles-zero : (n : ℕ) (c : Cells) (m : Marks) (s : Sign) (r : Marks) → AllHold n c.slots → is_zero_sign s ≡ true → r ≡ shorter_marks n c.slots m → Settles n c m s c.lefts r
-settles-zero n c m Neg r h z e = let y : ◌≡◌ {A = ℕ} 0 1 = cc in absurd (omega arith)
-settles-zero n c m Pos r h z e = let y : ◌≡◌ {A = ℕ} 0 1 = cc in absurd (omega arith)
-settles-zero n c m Zero r h z e =
+pub settles_zero : (n : ℕ) (c : Cells) (m : Marks) (s : Sign) (r : Marks) → AllHold n c.slots → is_zero_sign s ≡ true → r ≡ shorter_marks n c.slots m → Settles n c m s c.lefts r
+settles_zero n c m Neg r h z e = let y : ◌≡◌ {A = ℕ} 0 1 = cc in absurd (omega arith)
+settles_zero n c m Pos r h z e = let y : ◌≡◌ {A = ℕ} 0 1 = cc in absurd (omega arith)
+settles_zero n c m Zero r h z e =
     let looks = less_one-is m.looks in
     let current = shorter-poly n c.slots (m.base + m.done) m.count h in
     record {
@@ -70,19 +70,19 @@ settles-zero n c m Zero r h z e =
     }
 
 -- a polynomial of degree 0 or more
-no-terms : (n : ℕ) (slots : List ℤ) (i : ℕ) → eqb (degree_terms n (front_terms slots i 0)) 0 ≡ true
-no-terms n slots i = unfold monomials_of last_key in ap (λ d. eqb d 0) (zero-div (32 ^ n))
+no_terms : (n : ℕ) (slots : List ℤ) (i : ℕ) → eqb (degree_terms n (front_terms slots i 0)) 0 ≡ true
+no_terms n slots i = unfold monomials_of last_key in ap (λ d. eqb d 0) (zero-div (32 ^ n))
 
-left-settled : (n : ℕ) (slots : List ℤ) (i count : ℕ) (s : Sign) → AllHold n slots →
+left_settled : (n : ℕ) (slots : List ℤ) (i count : ℕ) (s : Sign) → AllHold n slots →
     left_from n slots i (record { count = cond (eqb (degree_terms n (front_terms slots i count)) 0) 0 count; sign = s }) ≡ left_of (front_poly n slots i count) s
-left-settled n slots i count s h =
-    let d : degree_terms n (front_terms slots i count) ≡ degree (front_poly n slots i count) = denoting-laws.degree-is n (front_terms slots i count) (front_poly n slots i count) (front-denotes n slots i count h) in
+left_settled n slots i count s h =
+    let d : degree_terms n (front_terms slots i count) ≡ degree (front_poly n slots i count) = denoting_laws.degree_is n (front_terms slots i count) (front_poly n slots i count) (front-denotes n slots i count h) in
     by count (eqb (degree_terms n (front_terms slots i count)) 0) refl ∙ ap (λ k. cond (eqb k 0) (table.Plain s) (table.Real (front_poly n slots i count) s)) d
   where
     by : (count : ℕ) (b : Bool) → eqb (degree_terms n (front_terms slots i count)) 0 ≡ b →
         left_with (cond b 0 count) (front_poly n slots i (cond b 0 count)) s ≡ cond b (table.Plain s) (table.Real (front_poly n slots i count) s)
     by count true e = refl
-    by zero false e = let z = no-terms n slots i in cc
+    by zero false e = let z = no_terms n slots i in cc
     by (suc k) false e = refl
 
 pub settles-passed : (n : ℕ) (c : Cells) (m : Marks) (s : Sign) (left : Left) (lefts : List ℤ) (r : Marks) → AllHold n c.slots → is_zero_sign s ≡ false →
@@ -105,7 +105,7 @@ settles-passed n c m s left lefts r h z e w q = by s z e
 
     here : (s : Sign) → left ≡ record { count = left_count n c.slots m; sign = s } →
         left_from n c.slots (m.base + m.done) (left_in lefts (m.base + m.done)) ≡ left_of (front_poly n c.slots (m.base + m.done) m.count) s
-    here s e = ap (left_from n c.slots (m.base + m.done)) (w.there ∙ e) ∙ left-settled n c.slots (m.base + m.done) m.count s h
+    here s e = ap (left_from n c.slots (m.base + m.done)) (w.there ∙ e) ∙ left_settled n c.slots (m.base + m.done) m.count s h
 
     by : (s : Sign) → is_zero_sign s ≡ false → left ≡ record { count = left_count n c.slots m; sign = s } → Settles n c m s lefts r
     by Neg z e = record { next = poly_of n (slot_in c.slots (m.base + suc m.done)); marks = marks; written = λ trees facts questions. (here Neg e, λ l. refl); kept = w.under }
@@ -123,7 +123,7 @@ next_marks_lem n slots m r q =
     let current : front_poly n slots (m.base + (m.done + 1)) (length slot) ≡ poly_of n slot = ap (poly_of n) whole in
     ap (marks_from n slots) q ∙ (λ i. Marked (looks i) m.base (done i) (ahead i) (current i) m.facts m.frames)
 
-pub passes-zero : (n : ℕ) (c : Cells) (m : Marks) (lefts : List ℤ) (r : Marks) → Written left_in (m.base + m.done) (record { count = 0; sign = Zero }) c.lefts lefts →
+pub passes_zero : (n : ℕ) (c : Cells) (m : Marks) (lefts : List ℤ) (r : Marks) → Written left_in (m.base + m.done) (record { count = 0; sign = Zero }) c.lefts lefts →
     r ≡ next_marks c.slots m → PassesZero n c m lefts r
-passes-zero n c m lefts r w q =
+passes_zero n c m lefts r w q =
     record { marks = next_marks_lem n c.slots m r q; written = ap (left_from n c.slots (m.base + m.done)) w.there; kept = w.under }

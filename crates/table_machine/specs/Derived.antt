@@ -11,7 +11,7 @@ pub record Derives (n : ℕ) (slots : List ℤ) (slot count to : ℕ) (after : L
   pub cells : List ℤ
   pub holds : Holds n cells
   pub is : poly_of n cells ≡ derivative n (front_poly n slots slot count)
-  pub modest-is : modest (suc n) (derivative n (front_poly n slots slot count)) ≡ true
+  pub modest_is : modest (suc n) (derivative n (front_poly n slots slot count)) ≡ true
   pub written : Written slot_in to cells slots after
 
 abbrev pub derives : {E : Type 0} → Result (Unit {0}) E → ℕ → List ℤ → (slot count to : ℕ) → List ℤ → Type 0

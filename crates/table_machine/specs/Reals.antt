@@ -33,8 +33,8 @@ pub record Highest (n : ℕ) (c : Cells) (m : Marks) (count i : ℕ) (t : Top) :
   pub parted : first ∷ others ≡ front ++ reals_from n c m i
   pub counted : length front ≡ count
   pub here : get_or front t.place none_left ≡ table_left n c m t.index
-  pub place-bound : t.place < count
-  pub index-bound : t.index < m.done
+  pub place_bound : t.place < count
+  pub index_bound : t.index < m.done
   pub few : count ≤ i
 
 -- what is left has this polynomial of the highest degree, where any is real

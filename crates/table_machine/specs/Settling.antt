@@ -21,10 +21,10 @@ is_zero_sign Pos = false
 
 -- the bounds of marks
 pub record Fitting (m : Marks) : Type 0 where
-  pub looks-bound : m.done + m.looks ≤ 63
-  pub size-bound : m.done + m.ahead ≤ 64
-  pub base-bound : m.base ≤ 63 * m.frames
-  pub depth-bound : m.frames ≤ 39
+  pub looks_bound : m.done + m.looks ≤ 63
+  pub size_bound : m.done + m.ahead ≤ 64
+  pub base_bound : m.base ≤ 63 * m.frames
+  pub depth_bound : m.frames ≤ 39
 
 abbrev pub next_marks : List ℤ → Marks → Marks
 next_marks slots m = record

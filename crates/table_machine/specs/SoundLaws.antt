@@ -19,7 +19,7 @@ pub record Enough (c : Cells) : Type 0 where
   pub questions : 10 * 3500 ≤ length c.questions
 
 pub record SoundLaws : Type 0 where
-  pub facing-fits : (n : ℕ) (trees : Tree → sign.Tree) (c : Cells) (f : Facing) → Sound (memory_of n trees c) (facing n c.slots f) → Fitting f.marks
-  pub facing-room : (n : ℕ) (trees : Tree → sign.Tree) (c : Cells) (f : Facing) → Enough c → f.pending < 3500 → Sound (memory_of n trees c) (facing n c.slots f) → Room c f
-  pub holding-asks : (n : ℕ) (trees : Tree → sign.Tree) (c : Cells) (t : sign.Tree) (pending : ℕ) → Enough c → 0 < pending → pending ≤ 3500 →
+  pub facing_fits : (n : ℕ) (trees : Tree → sign.Tree) (c : Cells) (f : Facing) → Sound (memory_of n trees c) (facing n c.slots f) → Fitting f.marks
+  pub facing_room : (n : ℕ) (trees : Tree → sign.Tree) (c : Cells) (f : Facing) → Enough c → f.pending < 3500 → Sound (memory_of n trees c) (facing n c.slots f) → Room c f
+  pub holding_asks : (n : ℕ) (trees : Tree → sign.Tree) (c : Cells) (t : sign.Tree) (pending : ℕ) → Enough c → 0 < pending → pending ≤ 3500 →
       Sound (memory_of n trees c) (stack.Holding t pending) → Askable c (question_in c.questions (pending - 1)).marks

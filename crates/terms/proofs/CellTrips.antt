@@ -7,8 +7,8 @@ use Rattle.terms.specs.Cells.{cell_of, monomial_of, cells_of, monomials_of, pack
 use Rattle.terms.specs.Canon.{Canon}
 use Rattle.terms.specs.Sizes.{KeysBelow}
 use Rattle.terms.proofs.Tests.{T_true}
-use Rattle.terms.proofs.Flat.{flat-unique}
-use Rattle.terms.proofs.Bounds.{keys-flat}
+use Rattle.terms.proofs.Flat.{flat_unique}
+use Rattle.terms.proofs.Bounds.{keys_flat}
 
 cell-negative : (k a : ℕ) → k < 2 ^ 20 → cell_of (monomial k (negsuc a)) ≡ negsuc (a * 2 ^ 20 + (2 ^ 20 - 1 - k))
 cell-negative k a l =
@@ -17,50 +17,50 @@ cell-negative k a l =
     let d : suc x - suc k ≡ a * 2 ^ 20 + (2 ^ 20 - 1 - k) = omega arith in
     ap (λ n. neg_ℤ (pos n) +ℤ pos k) e ∙ ap (λ b. cond b (negsuc (suc x - suc k)) (pos (k - suc x))) (T_true (ltb k (suc x)) (lt→ltb k (suc x) (omega arith))) ∙ ap negsuc d
 
-monomial-of : (k : ℕ) (x : ℤ) → k < 2 ^ 20 → monomial_of (cell_of (monomial k x)) ≡ monomial k x
-monomial-of k (pos a) l =
+monomial_of_lem : (k : ℕ) (x : ℤ) → k < 2 ^ 20 → monomial_of (cell_of (monomial k x)) ≡ monomial k x
+monomial_of_lem k (pos a) l =
     let q : (a * 2 ^ 20 + k) / 2 ^ 20 ≡ a = omega arith in
     let r : (a * 2 ^ 20 + k) % 2 ^ 20 ≡ k = omega arith in
     ap₂ monomial r (ap pos q)
-monomial-of k (negsuc a) l =
+monomial_of_lem k (negsuc a) l =
     let c = a * 2 ^ 20 + (2 ^ 20 - 1 - k) in
     let q : c / 2 ^ 20 ≡ a = omega arith in
     let r : 2 ^ 20 - 1 - c % 2 ^ 20 ≡ k = omega arith in
     ap monomial_of (cell-negative k a l) ∙ ap₂ monomial r (ap negsuc q)
 
-pub monomial-of-cell : (m : Monomial) → m.key < 2 ^ 20 → monomial_of (cell_of m) ≡ m
-monomial-of-cell m l = monomial-of m.key m.times l
+pub monomial_of_cell : (m : Monomial) → m.key < 2 ^ 20 → monomial_of (cell_of m) ≡ m
+monomial_of_cell m l = monomial_of_lem m.key m.times l
 
-pub key-of-cell : (z : ℤ) → (monomial_of z).key < 2 ^ 20
-key-of-cell (pos a) = omega arith
-key-of-cell (negsuc a) = omega arith
+pub key_of_cell : (z : ℤ) → (monomial_of z).key < 2 ^ 20
+key_of_cell (pos a) = omega arith
+key_of_cell (negsuc a) = omega arith
 
-pub cell-of-monomial : (z : ℤ) → cell_of (monomial_of z) ≡ z
-cell-of-monomial (pos a) = ap pos (omega arith)
-cell-of-monomial (negsuc a) = cell-negative (2 ^ 20 - 1 - a % 2 ^ 20) (a / 2 ^ 20) (omega arith) ∙ ap negsuc (omega arith)
+pub cell_of_monomial : (z : ℤ) → cell_of (monomial_of z) ≡ z
+cell_of_monomial (pos a) = ap pos (omega arith)
+cell_of_monomial (negsuc a) = cell-negative (2 ^ 20 - 1 - a % 2 ^ 20) (a / 2 ^ 20) (omega arith) ∙ ap negsuc (omega arith)
 
-pub monomials-of-cells : (ms : List Monomial) → KeysBelow (2 ^ 20) ms → monomials_of (cells_of ms) ≡ ms
+pub monomials_of_cells : (ms : List Monomial) → KeysBelow (2 ^ 20) ms → monomials_of (cells_of ms) ≡ ms
 unfolding monomials_of cells_of KeysBelow
-monomials-of-cells [] h = refl
-monomials-of-cells (m ∷ ms) h = ap₂ ◌∷◌ (monomial-of-cell m h.0) (monomials-of-cells ms h.1)
+monomials_of_cells [] h = refl
+monomials_of_cells (m ∷ ms) h = ap₂ ◌∷◌ (monomial_of_cell m h.0) (monomials_of_cells ms h.1)
 
-pub cells-of-monomials : (zs : List ℤ) → cells_of (monomials_of zs) ≡ zs
+pub cells_of_monomials : (zs : List ℤ) → cells_of (monomials_of zs) ≡ zs
 unfolding monomials_of cells_of
-cells-of-monomials [] = refl
-cells-of-monomials (z ∷ zs) = ap₂ ◌∷◌ (cell-of-monomial z) (cells-of-monomials zs)
+cells_of_monomials [] = refl
+cells_of_monomials (z ∷ zs) = ap₂ ◌∷◌ (cell_of_monomial z) (cells_of_monomials zs)
 
 size_of : (k : ℕ) (x : ℤ) → k < 2 ^ 20 → magnitude x < 2 ^ 27 → magnitude (cell_of (monomial k x)) < 2 ^ 47
 size_of k (pos a) l h = omega arith
 size_of k (negsuc a) l h = subst (λ z. magnitude z < 2 ^ 47) (sym (cell-negative k a l)) (omega arith)
 
-pub size-of-cell : (m : Monomial) → m.key < 2 ^ 20 → magnitude m.times < 2 ^ 27 → magnitude (cell_of m) < 2 ^ 47
-size-of-cell m l h = size_of m.key m.times l h
+pub size_of_cell : (m : Monomial) → m.key < 2 ^ 20 → magnitude m.times < 2 ^ 27 → magnitude (cell_of m) < 2 ^ 47
+size_of_cell m l h = size_of m.key m.times l h
 
-pub packed-monomials : (b n : ℕ) (p : Poly) → n ≤ 4 → b ≤ 32 → Canon b n p → monomials_of (packed n p) ≡ flat n p
-packed-monomials b n p m l d = monomials-of-cells (flat n p) (keys-flat b n p m l d)
+pub packed_monomials : (b n : ℕ) (p : Poly) → n ≤ 4 → b ≤ 32 → Canon b n p → monomials_of (packed n p) ≡ flat n p
+packed_monomials b n p m l d = monomials_of_cells (flat n p) (keys_flat b n p m l d)
 
-pub packed-unique : (b n : ℕ) (p q : Poly) → n ≤ 4 → b ≤ 32 → Canon b n p → Canon b n q → packed n p ≡ packed n q → p ≡ q
-packed-unique b n p q m l d k e = flat-unique b n p q l d k (sym (packed-monomials b n p m l d) ∙ ap monomials_of e ∙ packed-monomials b n q m l k)
+pub packed_unique : (b n : ℕ) (p q : Poly) → n ≤ 4 → b ≤ 32 → Canon b n p → Canon b n q → packed n p ≡ packed n q → p ≡ q
+packed_unique b n p q m l d k e = flat_unique b n p q l d k (sym (packed_monomials b n p m l d) ∙ ap monomials_of e ∙ packed_monomials b n q m l k)
 
 -- parts of a list of cells
 pub monomials-length : (zs : List ℤ) → length (monomials_of zs) ≡ length zs
@@ -85,11 +85,11 @@ monomials-drop zero zs = refl
 monomials-drop (suc i) [] = refl
 monomials-drop (suc i) (z ∷ zs) = monomials-drop i zs
 
-pub monomials-at : (i : ℕ) (zs : List ℤ) (d : ℤ) → get_or (monomials_of zs) i (monomial_of d) ≡ monomial_of (get_or zs i d)
+pub monomials_at : (i : ℕ) (zs : List ℤ) (d : ℤ) → get_or (monomials_of zs) i (monomial_of d) ≡ monomial_of (get_or zs i d)
 unfolding monomials_of
-monomials-at i [] d = refl
-monomials-at zero (z ∷ zs) d = refl
-monomials-at (suc i) (z ∷ zs) d = monomials-at i zs d
+monomials_at i [] d = refl
+monomials_at zero (z ∷ zs) d = refl
+monomials_at (suc i) (z ∷ zs) d = monomials_at i zs d
 
 pub cells-length : (ms : List Monomial) → length (cells_of ms) ≡ length ms
 unfolding cells_of

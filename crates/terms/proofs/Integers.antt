@@ -10,38 +10,38 @@ add_left_comm a b c = sym (+ℤ_assoc a b c) ∙ ap (λ u. u +ℤ c) (+ℤ_comm 
 pub add-exchange : (a b c d : ℤ) → (a +ℤ b) +ℤ (c +ℤ d) ≡ (a +ℤ c) +ℤ (b +ℤ d)
 add-exchange a b c d = +ℤ_assoc a b (c +ℤ d) ∙ ap (λ u. a +ℤ u) (add_left_comm b c d) ∙ sym (+ℤ_assoc a c (b +ℤ d))
 
-pub add-cancel : (x u v : ℤ) → x +ℤ u ≡ x +ℤ v → u ≡ v
-add-cancel x u v e = sym (gone u) ∙ ap (λ w. neg_ℤ x +ℤ w) e ∙ gone v
+pub add_cancel : (x u v : ℤ) → x +ℤ u ≡ x +ℤ v → u ≡ v
+add_cancel x u v e = sym (gone u) ∙ ap (λ w. neg_ℤ x +ℤ w) e ∙ gone v
   where
     gone : (w : ℤ) → neg_ℤ x +ℤ (x +ℤ w) ≡ w
     gone w = sym (+ℤ_assoc (neg_ℤ x) x w) ∙ ap (λ u. u +ℤ w) (+ℤ_invl x) ∙ +ℤ_idl w
 
-pub is-zero : (z : ℤ) → T (is_zero_number z) → z ≡ pos 0
-is-zero (pos n) t = ap pos (eqb→eq n 0 t)
-is-zero (negsuc n) t = absurd t
+pub is_zero_lem : (z : ℤ) → T (is_zero_number z) → z ≡ pos 0
+is_zero_lem (pos n) t = ap pos (eqb→eq n 0 t)
+is_zero_lem (negsuc n) t = absurd t
 
 abbrev pub NotZero : ℤ → Type 0
 NotZero z = T (not (is_zero_number z))
 
-pub not-zero : (z : ℤ) → NotZero z → z ≡ pos 0 → ⊥
-not-zero z h e = subst NotZero e h
+pub not_zero : (z : ℤ) → NotZero z → z ≡ pos 0 → ⊥
+not_zero z h e = subst NotZero e h
 
 pub positive : (n : ℕ) → 1 ≤ n → NotZero (pos n)
 positive n h = not_T (eqb n 0) (λ t. let e = eqb→eq n 0 t in omega arith)
 
-pub not-zero-neg : (z : ℤ) → NotZero z → NotZero (neg_ℤ z)
-not-zero-neg (pos zero) h = h
-not-zero-neg (pos (suc n)) h = tt
-not-zero-neg (negsuc n) h = positive (suc n) (omega arith)
+pub not_zero_neg : (z : ℤ) → NotZero z → NotZero (neg_ℤ z)
+not_zero_neg (pos zero) h = h
+not_zero_neg (pos (suc n)) h = tt
+not_zero_neg (negsuc n) h = positive (suc n) (omega arith)
 
-product-positive : (a b : ℕ) → NotZero (pos (suc a * suc b))
-product-positive a b = positive (suc a * suc b) (omega (arith, mul-suc (suc a) b))
+product_positive : (a b : ℕ) → NotZero (pos (suc a * suc b))
+product_positive a b = positive (suc a * suc b) (omega (arith, mul-suc (suc a) b))
 
-pub not-zero-mul : (x y : ℤ) → NotZero x → NotZero y → NotZero (x *ℤ y)
-not-zero-mul (pos zero) y h k = absurd h
-not-zero-mul (negsuc a) (pos zero) h k = absurd k
-not-zero-mul (pos (suc a)) (pos zero) h k = absurd k
-not-zero-mul (pos (suc a)) (pos (suc b)) h k = product-positive a b
-not-zero-mul (pos (suc a)) (negsuc b) h k = not-zero-neg (pos (suc a * suc b)) (product-positive a b)
-not-zero-mul (negsuc a) (pos (suc b)) h k = not-zero-neg (pos (suc a * suc b)) (product-positive a b)
-not-zero-mul (negsuc a) (negsuc b) h k = product-positive a b
+pub not_zero_mul : (x y : ℤ) → NotZero x → NotZero y → NotZero (x *ℤ y)
+not_zero_mul (pos zero) y h k = absurd h
+not_zero_mul (negsuc a) (pos zero) h k = absurd k
+not_zero_mul (pos (suc a)) (pos zero) h k = absurd k
+not_zero_mul (pos (suc a)) (pos (suc b)) h k = product_positive a b
+not_zero_mul (pos (suc a)) (negsuc b) h k = not_zero_neg (pos (suc a * suc b)) (product_positive a b)
+not_zero_mul (negsuc a) (pos (suc b)) h k = not_zero_neg (pos (suc a * suc b)) (product_positive a b)
+not_zero_mul (negsuc a) (negsuc b) h k = product_positive a b

@@ -13,93 +13,93 @@ use Rattle.terms.proofs.Steps as steps
 use Rattle.terms.proofs.CellTrips as cells
 use Rattle.terms.proofs.Bounds as bounds
 
-pub flat-laws : FlatLaws
-flat-laws = record { rising-unique = rises.rising-unique; flat-rising = flats.flat-rising; flat-unique = flats.flat-unique; flat-is_zero = flats.flat-is_zero; flat-number = flats.flat-number }
+pub flat_laws : FlatLaws
+flat_laws = record { rising_unique = rises.rising_unique; flat_rising = flats.flat_rising; flat_unique = flats.flat_unique; flat_is_zero = flats.flat_is_zero; flat_number = flats.flat_number }
 
-pub canon-laws : CanonLaws
-canon-laws =
+pub canon_laws : CanonLaws
+canon_laws =
     record {
-      Canon-wider = canons.Canon-wider;
-      Canon-Depth = canons.Canon-Depth;
-      Canon-zero_poly = canons.Canon-zero_poly;
-      Canon-constant = canons.Canon-constant;
-      Canon-variable = canons.Canon-variable;
-      Canon-sum = canons.Canon-sum;
-      Canon-product = λ a. canons.Canon-product (suc a);
-      Canon-negative = canons.Canon-negative;
-      Canon-leading = canons.Canon-leading;
-      Canon-without_leading = canons.Canon-without_leading;
-      Canon-derivative = canons.Canon-derivative;
-      Canon-division_step = canons.Canon-division_step;
-      Canon-modest = checks.Canon-modest;
-      Canon-term = checks.Canon-term;
-      Canon-remainder = checks.Canon-remainder;
+      Canon_wider = canons.Canon_wider;
+      Canon_Depth = canons.Canon_Depth;
+      Canon_zero_poly = canons.Canon_zero_poly;
+      Canon_constant = canons.Canon_constant;
+      Canon_variable = canons.Canon_variable;
+      Canon_sum = canons.Canon_sum;
+      Canon_product = λ a. canons.Canon_product (suc a);
+      Canon_negative = canons.Canon_negative;
+      Canon_leading = canons.Canon_leading;
+      Canon_without_leading = canons.Canon_without_leading;
+      Canon_derivative = canons.Canon_derivative;
+      Canon_division_step = canons.Canon_division_step;
+      Canon_modest = checks.Canon_modest;
+      Canon_term = checks.Canon_term;
+      Canon_remainder = checks.Canon_remainder;
     }
 
-pub flat-operation-laws : FlatOperationLaws
-flat-operation-laws =
+pub flat_operation_laws : FlatOperationLaws
+flat_operation_laws =
     record {
-      flat-constant = variables.flat-constant;
-      flat-variable = variables.flat-variable;
-      flat-sum = sums.flat-sum;
-      flat-negative = sums.flat-negative;
-      flat-product = sums.flat-product;
-      flat-same = variables.flat-same;
-      flat-same-negative = variables.flat-same-negative;
+      flat_constant = variables.flat_constant;
+      flat_variable = variables.flat_variable;
+      flat_sum = sums.flat_sum;
+      flat_negative = sums.flat_negative;
+      flat_product = sums.flat_product;
+      flat_same = variables.flat_same;
+      flat_same_negative = variables.flat_same_negative;
     }
 
-pub flat-leading-laws : FlatLeadingLaws
-flat-leading-laws =
+pub flat_leading_laws : FlatLeadingLaws
+flat_leading_laws =
     record {
-      flat-length = leads.flat-length;
-      flat-degree = leads.flat-degree;
-      flat-leading = leads.flat-leading;
-      flat-without_leading = leads.flat-without_leading;
-      flat-derivative = leads.flat-derivative;
+      flat_length = leads.flat_length;
+      flat_degree = leads.flat_degree;
+      flat_leading = leads.flat_leading;
+      flat_without_leading = leads.flat_without_leading;
+      flat_derivative = leads.flat_derivative;
     }
 
-pub flat-modest-laws : FlatModestLaws
-flat-modest-laws =
+pub flat-modest_laws : FlatModestLaws
+flat-modest_laws =
     record {
-      flat-small = modests.flat-small;
-      flat-count = modests.flat-count;
-      flat-modest = modests.flat-modest;
-      modest-length = modests.modest-length;
-      modest-sizes = modests.modest-sizes;
+      flat_small = modests.flat_small;
+      flat_count = modests.flat_count;
+      flat_modest = modests.flat_modest;
+      modest_length = modests.modest_length;
+      modest_sizes = modests.modest_sizes;
     }
 
-pub flat-division-laws : FlatDivisionLaws
-flat-division-laws = record { flat-division_step = steps.flat-division_step; flat-divide = steps.flat-divide; flat-remainder = steps.flat-remainder }
+pub flat_division_laws : FlatDivisionLaws
+flat_division_laws = record { flat_division_step = steps.flat_division_step; flat_divide = steps.flat_divide; flat_remainder = steps.flat_remainder }
 
-pub size-laws : SizeLaws
-size-laws =
+pub size_laws : SizeLaws
+size_laws =
     record {
-      length-sum = bounds.length-sum;
-      length-scaled = bounds.length-scaled;
-      length-product = bounds.length-product;
-      keys-sum = bounds.keys-sum;
-      keys-scaled = bounds.keys-scaled;
-      keys-product = bounds.keys-product;
-      keys-rising = bounds.keys-rising;
-      keys-flat = bounds.keys-flat;
-      rising-of-product = bounds.rising-of-product;
-      rising-of-step = bounds.rising-of-step;
-      sizes-sum = bounds.sizes-sum;
-      sizes-scaled = bounds.sizes-scaled;
-      sizes-product = bounds.sizes-product;
-      sizes-modest-product = bounds.sizes-modest-product;
+      length_sum = bounds.length_sum;
+      length_scaled = bounds.length_scaled;
+      length_product = bounds.length_product;
+      keys_sum = bounds.keys_sum;
+      keys_scaled = bounds.keys_scaled;
+      keys_product = bounds.keys_product;
+      keys_rising = bounds.keys_rising;
+      keys_flat = bounds.keys_flat;
+      rising_of_product = bounds.rising_of_product;
+      rising_of_step = bounds.rising_of_step;
+      sizes_sum = bounds.sizes_sum;
+      sizes_scaled = bounds.sizes_scaled;
+      sizes_product = bounds.sizes_product;
+      sizes_modest_product = bounds.sizes_modest_product;
       sizes_step = bounds.sizes_step;
     }
 
 pub cell_laws : CellLaws
 cell_laws =
     record {
-      monomial-of-cell = cells.monomial-of-cell;
-      cell-of-monomial = cells.cell-of-monomial;
-      key-of-cell = cells.key-of-cell;
-      monomials-of-cells = cells.monomials-of-cells;
-      cells-of-monomials = cells.cells-of-monomials;
-      size-of-cell = cells.size-of-cell;
-      packed-monomials = cells.packed-monomials;
-      packed-unique = cells.packed-unique;
+      monomial_of_cell = cells.monomial_of_cell;
+      cell_of_monomial = cells.cell_of_monomial;
+      key_of_cell = cells.key_of_cell;
+      monomials_of_cells = cells.monomials_of_cells;
+      cells_of_monomials = cells.cells_of_monomials;
+      size_of_cell = cells.size_of_cell;
+      packed_monomials = cells.packed_monomials;
+      packed_unique = cells.packed_unique;
     }

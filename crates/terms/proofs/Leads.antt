@@ -9,45 +9,45 @@ use Rattle.terms.specs.Monomial.{Monomial, monomial, raised, flat, Rising}
 use Rattle.terms.specs.Operations.{scale_terms, add_product, mul_terms}
 use Rattle.terms.specs.LeadingTerms.{last_key, degree_terms, length_terms, count_below, lowered, leading_key, leading_terms, prefix_terms, slopes, derivative_terms}
 use Rattle.terms.specs.Canon.{Trimmed, AllOf, Canon}
-use Rattle.terms.proofs.Tests.{both-T}
+use Rattle.terms.proofs.Tests.{both_T}
 use Rattle.terms.proofs.Integers.{positive}
-use Rattle.terms.proofs.Rises.{rising-wider, rising-raised}
+use Rattle.terms.proofs.Rises.{rising_wider, rising-raised}
 use Rattle.terms.proofs.Merges.{add_none}
-use Rattle.terms.proofs.Split.{below_split, from-split, lowered-raised}
-use Rattle.terms.proofs.Canons.{all-last, all-without_last, length-without_last, Canon-constant}
-use Rattle.terms.proofs.Flat.{flats, flat-coefs, flat-trimmed, flat-zero, zero_is, zero-flat, flat-rising, rising-list, other-flats}
-use Rattle.terms.proofs.Sums.{constant-not-zero, raised-append, flat-product}
-use Rattle.terms.proofs.Variables.{flats-one, flat-constant}
+use Rattle.terms.proofs.Split.{below_split, from_split, lowered-raised}
+use Rattle.terms.proofs.Canons.{all-last, all-without_last, length-without_last, Canon_constant}
+use Rattle.terms.proofs.Flat.{flats, flat-coefs, flat_trimmed, flat_zero, zero_is, zero_flat, flat_rising, rising_list, other_flats}
+use Rattle.terms.proofs.Sums.{constant_not_zero, raised-append, flat_product}
+use Rattle.terms.proofs.Variables.{flats_one, flat_constant}
 
-raised-none : (s : List Monomial) → raised 0 s ≡ s
+raised_none : (s : List Monomial) → raised 0 s ≡ s
 unfolding raised
-raised-none [] = refl
-raised-none (m ∷ s) = let e : 0 + m.key ≡ m.key = omega arith in ap₂ (λ k l. monomial k m.times ∷ l) e (raised-none s)
+raised_none [] = refl
+raised_none (m ∷ s) = let e : 0 + m.key ≡ m.key = omega arith in ap₂ (λ k l. monomial k m.times ∷ l) e (raised_none s)
 
 pub raised-raised : (d e : ℕ) (s : List Monomial) → raised d (raised e s) ≡ raised (d + e) s
 unfolding raised
 raised-raised d e [] = refl
 raised-raised d e (m ∷ s) = let q : d + (e + m.key) ≡ d + e + m.key = omega arith in ap₂ (λ k l. monomial k m.times ∷ l) q (raised-raised d e s)
 
-pub raised-zero : (n : ℕ) (s : List Monomial) → raised (0 * 32 ^ n) s ≡ s
-raised-zero n s = ap (λ d. raised d s) (zero-mul (32 ^ n)) ∙ raised-none s
+pub raised_zero : (n : ℕ) (s : List Monomial) → raised (0 * 32 ^ n) s ≡ s
+raised_zero n s = ap (λ d. raised d s) (zero-mul (32 ^ n)) ∙ raised_none s
 
 -- the last coefficient's monomials stand last
-flats-last : (n : ℕ) (c : Poly) (cs : List Poly) → flats n (c ∷ cs) ≡ flats n (without_last (c ∷ cs)) ++ raised (length cs * 32 ^ n) (flat n (last_or c cs))
+flats_last : (n : ℕ) (c : Poly) (cs : List Poly) → flats n (c ∷ cs) ≡ flats n (without_last (c ∷ cs)) ++ raised (length cs * 32 ^ n) (flat n (last_or c cs))
 unfolding flats without_last last_or
-flats-last n c [] = flats-one n c ∙ sym (raised-zero n (flat n c))
-flats-last n c (d ∷ cs) =
+flats_last n c [] = flats_one n c ∙ sym (raised_zero n (flat n c))
+flats_last n c (d ∷ cs) =
     let g = 32 ^ n in
     let s = flats n (without_last (d ∷ cs)) in
     let t = flat n (last_or d cs) in
     let e : g + length cs * g ≡ suc (length cs) * g = omega (arith, suc-mul (length cs) g) in
-    ap (λ l. flat n c ++ raised g l) (flats-last n d cs) ∙ ap (λ l. flat n c ++ l) (raised-append g s (raised (length cs * g) t) ∙ ap (λ l. raised g s ++ l) (raised-raised g (length cs * g) t ∙ ap (λ i. raised i t) e))
+    ap (λ l. flat n c ++ raised g l) (flats_last n d cs) ∙ ap (λ l. flat n c ++ l) (raised-append g s (raised (length cs * g) t) ∙ ap (λ l. raised g s ++ l) (raised-raised g (length cs * g) t ∙ ap (λ i. raised i t) e))
     ∙ sym (append_assoc (flat n c) (raised g s) (raised (suc (length cs) * g) t))
 
-pub last-not-zero : (c : Poly) (cs : List Poly) → Trimmed (c ∷ cs) → T (is_zero (last_or c cs)) → ⊥
+pub last_not_zero : (c : Poly) (cs : List Poly) → Trimmed (c ∷ cs) → T (is_zero (last_or c cs)) → ⊥
 unfolding Trimmed all_zero last_or
-last-not-zero c [] d t = T_not (is_zero c && true) d.0 (both-T (is_zero c) true t tt)
-last-not-zero c (e ∷ cs) d t = last-not-zero e cs d.1 t
+last_not_zero c [] d t = T_not (is_zero c && true) d.0 (both_T (is_zero c) true t tt)
+last_not_zero c (e ∷ cs) d t = last_not_zero e cs d.1 t
 
 last_key-append : (s : List Monomial) (m : Monomial) (t : List Monomial) → last_key (s ++ (m ∷ t)) ≡ last_key (m ∷ t)
 unfolding last_key
@@ -64,10 +64,10 @@ last_key-joined : (d : ℕ) (s : List Monomial) (m : Monomial) (t : List Monomia
 unfolding raised
 last_key-joined d s m t = last_key-append s (monomial (d + m.key) m.times) (raised d t) ∙ last_key-raised d m t
 
-joined-not-empty : (d : ℕ) (s : List Monomial) (m : Monomial) (t : List Monomial) → s ++ raised d (m ∷ t) ≡ [] → ⊥
+joined_not_empty : (d : ℕ) (s : List Monomial) (m : Monomial) (t : List Monomial) → s ++ raised d (m ∷ t) ≡ [] → ⊥
 unfolding raised
-joined-not-empty d [] m t e = let z : ◌≡◌ {A = ℕ} 0 1 = cc in omega arith
-joined-not-empty d (a ∷ s) m t e = let z : ◌≡◌ {A = ℕ} 0 1 = cc in omega arith
+joined_not_empty d [] m t e = let z : ◌≡◌ {A = ℕ} 0 1 = cc in omega arith
+joined_not_empty d (a ∷ s) m t e = let z : ◌≡◌ {A = ℕ} 0 1 = cc in omega arith
 
 length-degree : (n : ℕ) (ts : List Monomial) → (ts ≡ [] → ⊥) → length_terms n ts ≡ suc (degree_terms n ts)
 length-degree n [] h = absurd (h refl)
@@ -80,74 +80,74 @@ last_key-below lo hi m (k ∷ s) r = last_key-below (suc m.key) hi k s r.3
 
 -- what is known of a list of coefficients that isn't empty
 pub record Lead (n : ℕ) (c : Poly) (cs : List Poly) : Type 0 where
-  pub degree-is : degree_terms n (flats n (c ∷ cs)) ≡ length cs
-  pub length-is : length_terms n (flats n (c ∷ cs)) ≡ suc (length cs)
-  pub leading-is : leading_terms n (flats n (c ∷ cs)) ≡ flat n (last_or c cs)
-  pub prefix-is : prefix_terms n (flats n (c ∷ cs)) ≡ flats n (without_last (c ∷ cs))
+  pub degree_is : degree_terms n (flats n (c ∷ cs)) ≡ length cs
+  pub length_is : length_terms n (flats n (c ∷ cs)) ≡ suc (length cs)
+  pub leading_is : leading_terms n (flats n (c ∷ cs)) ≡ flat n (last_or c cs)
+  pub prefix_is : prefix_terms n (flats n (c ∷ cs)) ≡ flats n (without_last (c ∷ cs))
 
 pub lead : (b n : ℕ) (c : Poly) (cs : List Poly) → b ≤ 32 → AllOf (Canon b n) (c ∷ cs) → Trimmed (c ∷ cs) → Lead n c cs
 unfolding AllOf
 lead b n c cs l d t = go (flat n (last_or c cs)) refl (all-last (Canon b n) c cs d.0 d.1) (all-without_last (Canon b n) (c ∷ cs) d)
   where
     go : (ts : List Monomial) → flat n (last_or c cs) ≡ ts → Canon b n (last_or c cs) → AllOf (Canon b n) (without_last (c ∷ cs)) → Lead n c cs
-    go [] e dl dw = absurd (last-not-zero c cs t (zero-flat b n (last_or c cs) dl e))
+    go [] e dl dw = absurd (last_not_zero c cs t (zero_flat b n (last_or c cs) dl e))
     go (m ∷ ts) e dl dw =
         let g = 32 ^ n in
         let w = flats n (without_last (c ∷ cs)) in
         let less : suc (length cs) - 1 ≡ length cs = omega arith in
-        let r : Rising 0 g (m ∷ ts) = subst (Rising 0 g) e (flat-rising b n (last_or c cs) l dl) in
-        let q : Rising 0 (length cs * g) w = subst (λ i. Rising 0 (i * g) w) (length-without_last (c ∷ cs) ∙ less) (rising-list b n (without_last (c ∷ cs)) l dw) in
+        let r : Rising 0 g (m ∷ ts) = subst (Rising 0 g) e (flat_rising b n (last_or c cs) l dl) in
+        let q : Rising 0 (length cs * g) w = subst (λ i. Rising 0 (i * g) w) (length-without_last (c ∷ cs) ∙ less) (rising_list b n (without_last (c ∷ cs)) l dw) in
         let u : Rising (length cs * g) (length cs * g + g) (raised (length cs * g) (m ∷ ts)) =
-        rising-wider (length cs * g + 0) (length cs * g + g) (length cs * g) (length cs * g + g) (raised (length cs * g) (m ∷ ts)) (omega arith) (omega arith) (rising-raised (length cs * g) 0 g (m ∷ ts) r) in
-        let whole : flats n (c ∷ cs) ≡ w ++ raised (length cs * g) (m ∷ ts) = flats-last n c cs ∙ ap (λ s. w ++ raised (length cs * g) s) e in
+        rising_wider (length cs * g + 0) (length cs * g + g) (length cs * g) (length cs * g + g) (raised (length cs * g) (m ∷ ts)) (omega arith) (omega arith) (rising-raised (length cs * g) 0 g (m ∷ ts) r) in
+        let whole : flats n (c ∷ cs) ≡ w ++ raised (length cs * g) (m ∷ ts) = flats_last n c cs ∙ ap (λ s. w ++ raised (length cs * g) s) e in
         let key : last_key (flats n (c ∷ cs)) ≡ length cs * g + last_key (m ∷ ts) = ap last_key whole ∙ last_key-joined (length cs * g) w m ts in
         let deg : degree_terms n (flats n (c ∷ cs)) ≡ length cs = ap (λ k. k / g) key ∙ digits_div (length cs) (last_key-below 0 g m ts r) in
         let at : leading_key n (flats n (c ∷ cs)) ≡ length cs * g = ap (λ i. i * g) deg in
         let y = w ++ raised (length cs * g) (m ∷ ts) in
         record {
-          degree-is = deg;
-          length-is = length-degree n (flats n (c ∷ cs)) (λ z. joined-not-empty (length cs * g) w m ts (sym whole ∙ z)) ∙ ap suc deg;
-          leading-is =
-              ap₂ (λ k x. lowered k (drop (count_below k x) x)) at whole ∙ ap (lowered (length cs * g)) (from-split 0 (length cs * g) (length cs * g + g) w (raised (length cs * g) (m ∷ ts)) q u)
+          degree_is = deg;
+          length_is = length-degree n (flats n (c ∷ cs)) (λ z. joined_not_empty (length cs * g) w m ts (sym whole ∙ z)) ∙ ap suc deg;
+          leading_is =
+              ap₂ (λ k x. lowered k (drop (count_below k x) x)) at whole ∙ ap (lowered (length cs * g)) (from_split 0 (length cs * g) (length cs * g + g) w (raised (length cs * g) (m ∷ ts)) q u)
               ∙ lowered-raised (length cs * g) (m ∷ ts) ∙ sym e;
-          prefix-is = ap₂ (λ k x. take (count_below k x) x) at whole ∙ below_split 0 (length cs * g) (length cs * g + g) w (raised (length cs * g) (m ∷ ts)) q u;
+          prefix_is = ap₂ (λ k x. take (count_below k x) x) at whole ∙ below_split 0 (length cs * g) (length cs * g + g) w (raised (length cs * g) (m ∷ ts)) q u;
         }
 
 -- the same of a polynomial
-pub flat-length : (b n : ℕ) (p : Poly) → b ≤ 32 → Canon b (suc n) p → length (coefs p) ≡ length_terms n (flat (suc n) p)
+pub flat_length : (b n : ℕ) (p : Poly) → b ≤ 32 → Canon b (suc n) p → length (coefs p) ≡ length_terms n (flat (suc n) p)
 unfolding Canon
-flat-length b n p l d = go (coefs p) d.3 d.2 ∙ ap (length_terms n) (sym (flat-coefs n p))
+flat_length b n p l d = go (coefs p) d.3 d.2 ∙ ap (length_terms n) (sym (flat-coefs n p))
   where
     go : (cs : List Poly) → AllOf (Canon b n) cs → Trimmed cs → length cs ≡ length_terms n (flats n cs)
     go [] d t = unfold flats in refl
-    go (c ∷ cs) d t = sym (lead b n c cs l d t).length-is
+    go (c ∷ cs) d t = sym (lead b n c cs l d t).length_is
 
-pub flat-degree : (b n : ℕ) (p : Poly) → b ≤ 32 → Canon b (suc n) p → degree p ≡ degree_terms n (flat (suc n) p)
+pub flat_degree : (b n : ℕ) (p : Poly) → b ≤ 32 → Canon b (suc n) p → degree p ≡ degree_terms n (flat (suc n) p)
 unfolding Canon
-flat-degree b n p l d = go (coefs p) d.3 d.2 ∙ ap (degree_terms n) (sym (flat-coefs n p))
+flat_degree b n p l d = go (coefs p) d.3 d.2 ∙ ap (degree_terms n) (sym (flat-coefs n p))
   where
     go : (cs : List Poly) → AllOf (Canon b n) cs → Trimmed cs → length cs - 1 ≡ degree_terms n (flats n cs)
     go [] d t = unfold flats last_key in sym (zero-div (32 ^ n))
-    go (c ∷ cs) d t = let e : suc (length cs) - 1 ≡ length cs = omega arith in e ∙ sym (lead b n c cs l d t).degree-is
+    go (c ∷ cs) d t = let e : suc (length cs) - 1 ≡ length cs = omega arith in e ∙ sym (lead b n c cs l d t).degree_is
 
-pub flat-leading : (b n : ℕ) (p : Poly) → b ≤ 32 → Canon b (suc n) p → flat n (leading n p) ≡ leading_terms n (flat (suc n) p)
+pub flat_leading : (b n : ℕ) (p : Poly) → b ≤ 32 → Canon b (suc n) p → flat n (leading n p) ≡ leading_terms n (flat (suc n) p)
 unfolding Canon
-flat-leading b n p l d = go (coefs p) d.3 d.2 ∙ ap (leading_terms n) (sym (flat-coefs n p))
+flat_leading b n p l d = go (coefs p) d.3 d.2 ∙ ap (leading_terms n) (sym (flat-coefs n p))
   where
     none : leading_terms n [] ≡ []
     none = unfold lowered count_below in refl
 
     go : (cs : List Poly) → AllOf (Canon b n) cs → Trimmed cs → flat n (last_or (zero_poly n) cs) ≡ leading_terms n (flats n cs)
-    go [] d t = unfold last_or flats in flat-zero n (zero_poly n) (zero_is n) ∙ sym none
-    go (c ∷ cs) d t = unfold last_or in sym (lead b n c cs l d t).leading-is
+    go [] d t = unfold last_or flats in flat_zero n (zero_poly n) (zero_is n) ∙ sym none
+    go (c ∷ cs) d t = unfold last_or in sym (lead b n c cs l d t).leading_is
 
-pub flat-without_leading : (b n : ℕ) (p : Poly) → b ≤ 32 → Canon b (suc n) p → flat (suc n) (without_leading p) ≡ prefix_terms n (flat (suc n) p)
+pub flat_without_leading : (b n : ℕ) (p : Poly) → b ≤ 32 → Canon b (suc n) p → flat (suc n) (without_leading p) ≡ prefix_terms n (flat (suc n) p)
 unfolding Canon
-flat-without_leading b n p l d = flat-trimmed n (without_last (coefs p)) ∙ go (coefs p) d.3 d.2 ∙ ap (prefix_terms n) (sym (flat-coefs n p))
+flat_without_leading b n p l d = flat_trimmed n (without_last (coefs p)) ∙ go (coefs p) d.3 d.2 ∙ ap (prefix_terms n) (sym (flat-coefs n p))
   where
     go : (cs : List Poly) → AllOf (Canon b n) cs → Trimmed cs → flats n (without_last cs) ≡ prefix_terms n (flats n cs)
     go [] d t = unfold without_last flats count_below in refl
-    go (c ∷ cs) d t = sym (lead b n c cs l d t).prefix-is
+    go (c ∷ cs) d t = sym (lead b n c cs l d t).prefix_is
 
 -- the derivative
 slopes-append : (n : ℕ) (s t : List Monomial) → slopes n (s ++ t) ≡ slopes n s ++ slopes n t
@@ -166,16 +166,16 @@ slopes-one n j lo (m ∷ s) r =
 
 flat-times : (b n k : ℕ) (c : Poly) → suc b ≤ 32 → Canon (suc b) n c → flat n (product n (constant n (pos (suc k))) c) ≡ scale_terms 0 (pos (suc k)) (flat n c)
 flat-times b n k c l d =
-    flat-product 0 b n (constant n (pos (suc k))) c (omega arith) (Canon-constant 1 n (pos (suc k)) (omega arith)) d ∙ ap (λ ts. mul_terms ts (flat n c)) (flat-constant n (pos (suc k)) ∙ constant-not-zero (pos (suc k)) (positive (suc k) (omega arith)))
+    flat_product 0 b n (constant n (pos (suc k))) c (omega arith) (Canon_constant 1 n (pos (suc k)) (omega arith)) d ∙ ap (λ ts. mul_terms ts (flat n c)) (flat_constant n (pos (suc k)) ∙ constant_not_zero (pos (suc k)) (positive (suc k) (omega arith)))
     ∙ once
   where
     once : mul_terms (monomial 0 (pos (suc k)) ∷ []) (flat n c) ≡ scale_terms 0 (pos (suc k)) (flat n c)
     once = unfold add_product in add_none (scale_terms 0 (pos (suc k)) (flat n c))
 
-slopes-flats : (b n j : ℕ) (cs : List Poly) → suc b ≤ 32 → AllOf (Canon (suc b) n) cs → slopes n (raised (suc j * 32 ^ n) (flats n cs)) ≡ raised (j * 32 ^ n) (flats n (scaled n (suc j) cs))
+slopes_flats : (b n j : ℕ) (cs : List Poly) → suc b ≤ 32 → AllOf (Canon (suc b) n) cs → slopes n (raised (suc j * 32 ^ n) (flats n cs)) ≡ raised (j * 32 ^ n) (flats n (scaled n (suc j) cs))
 unfolding AllOf flats scaled
-slopes-flats b n j [] l d = unfold raised slopes in refl
-slopes-flats b n j (c ∷ cs) l d =
+slopes_flats b n j [] l d = unfold raised slopes in refl
+slopes_flats b n j (c ∷ cs) l d =
     let g = 32 ^ n in
     let e : suc j * g + g ≡ suc (suc j) * g = omega (arith, suc-mul (suc j) g) in
     let f : j * g + g ≡ suc j * g = omega (arith, suc-mul j g) in
@@ -183,18 +183,18 @@ slopes-flats b n j (c ∷ cs) l d =
     let u = flat n (product n (constant n (pos (suc j))) c) in
     ap (slopes n) (raised-append (suc j * g) (flat n c) (raised g (flats n cs)) ∙ ap (λ l. raised (suc j * g) (flat n c) ++ l) (raised-raised (suc j * g) g (flats n cs) ∙ ap (λ i. raised i (flats n cs)) e))
     ∙ slopes-append n (raised (suc j * g) (flat n c)) (raised (suc (suc j) * g) (flats n cs))
-    ∙ ap₂ ◌++◌ (slopes-one n j 0 (flat n c) (flat-rising (suc b) n c l d.0) ∙ ap (raised (j * g)) (sym (flat-times b n j c l d.0)))
-    (slopes-flats b n (suc j) cs l d.1 ∙ ap (λ i. raised i (flats n (scaled n (suc (suc j)) cs))) (sym f) ∙ sym (raised-raised (j * g) g (flats n (scaled n (suc (suc j)) cs))) ∙ ap (λ i. raised (j * g) (raised g (flats n (scaled n i cs)))) next)
+    ∙ ap₂ ◌++◌ (slopes-one n j 0 (flat n c) (flat_rising (suc b) n c l d.0) ∙ ap (raised (j * g)) (sym (flat-times b n j c l d.0)))
+    (slopes_flats b n (suc j) cs l d.1 ∙ ap (λ i. raised i (flats n (scaled n (suc (suc j)) cs))) (sym f) ∙ sym (raised-raised (j * g) g (flats n (scaled n (suc (suc j)) cs))) ∙ ap (λ i. raised (j * g) (raised g (flats n (scaled n i cs)))) next)
     ∙ sym (raised-append (j * g) u (raised g (flats n (scaled n (suc j + 1) cs))))
 
-pub flat-derivative : (b n : ℕ) (p : Poly) → suc b ≤ 32 → Canon (suc b) (suc n) p → flat (suc n) (derivative n p) ≡ derivative_terms n (flat (suc n) p)
+pub flat_derivative : (b n : ℕ) (p : Poly) → suc b ≤ 32 → Canon (suc b) (suc n) p → flat (suc n) (derivative n p) ≡ derivative_terms n (flat (suc n) p)
 unfolding Canon
-flat-derivative b n p l d = flat-trimmed n (scaled n 1 (without_first (coefs p))) ∙ go (coefs p) d.3 ∙ ap (derivative_terms n) (sym (flat-coefs n p))
+flat_derivative b n p l d = flat_trimmed n (scaled n 1 (without_first (coefs p))) ∙ go (coefs p) d.3 ∙ ap (derivative_terms n) (sym (flat-coefs n p))
   where
     go : (cs : List Poly) → AllOf (Canon (suc b) n) cs → flats n (scaled n 1 (without_first cs)) ≡ derivative_terms n (flats n cs)
     go [] d = unfold flats scaled count_below slopes in refl
     go (c ∷ cs) d =
         let g = 32 ^ n in
         let e : 1 * g ≡ g = omega arith in
-        sym (ap (slopes n) (other-flats (suc b) n c cs l d ∙ ap (λ i. raised i (flats n cs)) (sym e)) ∙ slopes-flats b n 0 cs l (unfold AllOf in d.1)
-        ∙ raised-zero n (flats n (scaled n 1 cs)))
+        sym (ap (slopes n) (other_flats (suc b) n c cs l d ∙ ap (λ i. raised i (flats n cs)) (sym e)) ∙ slopes_flats b n 0 cs l (unfold AllOf in d.1)
+        ∙ raised_zero n (flats n (scaled n 1 cs)))

@@ -24,9 +24,9 @@ pub T-both : (a b : Bool) → T (a && b) → T a × T b
 T-both true b t = (tt, t)
 T-both false b t = absurd t
 
-pub both-T : (a b : Bool) → T a → T b → T (a && b)
-both-T true b s t = t
-both-T false b s t = absurd s
+pub both_T : (a b : Bool) → T a → T b → T (a && b)
+both_T true b s t = t
+both_T false b s t = absurd s
 
 pub eq→eqb : (a b : ℕ) → a ≡ b → T (eqb a b)
 eq→eqb a b e = subst (λ k. T (eqb a k)) e (eqb_refl a)

@@ -19,20 +19,20 @@ term-stands after xs (OfTerm t) (IsClaim c) h e = absurd h
 term-stands after xs (OfClaim p) IsTerm h e = absurd h
 term-stands after xs (OfClaim p) (IsClaim c) h e = let z : ◌≡◌ {A = ℕ} 0 1 = cc in absurd (omega arith)
 
-pub claim-stands : (after : Sheet) (xs : List ℤ) (a : Piece) (k : Kind) (b : Bool) → PieceShown after xs a k → k ≡ IsClaim b → (p : Claim) × (a ≡ OfClaim p) × ClaimShown after xs p b
-claim-stands after xs (OfTerm t) IsTerm b h e = let z : ◌≡◌ {A = ℕ} 0 1 = cc in absurd (omega arith)
-claim-stands after xs (OfTerm t) (IsClaim c) b h e = absurd h
-claim-stands after xs (OfClaim p) IsTerm b h e = absurd h
-claim-stands after xs (OfClaim p) (IsClaim c) b h e = let same : c ≡ b = cc in (p, refl, (h.0 ∙ same, h.1))
+pub claim_stands : (after : Sheet) (xs : List ℤ) (a : Piece) (k : Kind) (b : Bool) → PieceShown after xs a k → k ≡ IsClaim b → (p : Claim) × (a ≡ OfClaim p) × ClaimShown after xs p b
+claim_stands after xs (OfTerm t) IsTerm b h e = let z : ◌≡◌ {A = ℕ} 0 1 = cc in absurd (omega arith)
+claim_stands after xs (OfTerm t) (IsClaim c) b h e = absurd h
+claim_stands after xs (OfClaim p) IsTerm b h e = absurd h
+claim_stands after xs (OfClaim p) (IsClaim c) b h e = let same : c ≡ b = cc in (p, refl, (h.0 ∙ same, h.1))
 
-pub chain-refused : (s : Chain) (shows : Claim → Bool → Type 0) (o : Outcome Chain) (r : Result Bool Fault) (at : ℕ) (e : Fault) → o ≡ Refused (refusal_at e at) → IsErrAnd r (λ y. y ≡ e) → ChainReads s shows o r at
-chain-refused s shows o (Ok v) at e p q = absurd q
-chain-refused s shows o (Err f) at e p q = p ∙ ap (λ g. Refused (refusal_at g at)) (sym q)
+pub chain_refused : (s : Chain) (shows : Claim → Bool → Type 0) (o : Outcome Chain) (r : Result Bool Fault) (at : ℕ) (e : Fault) → o ≡ Refused (refusal_at e at) → IsErrAnd r (λ y. y ≡ e) → ChainReads s shows o r at
+chain_refused s shows o (Ok v) at e p q = absurd q
+chain_refused s shows o (Err f) at e p q = p ∙ ap (λ g. Refused (refusal_at g at)) (sym q)
 
-pub bind-same : {A B : Type 0} (r r' : Reader A) (go : A → Reader B) (text : List ℕ) (i j : ℕ) → run r text i ≡ run r' text j → run (r >>= go) text i ≡ run (r' >>= go) text j
-bind-same r r' go text i j e = run_bind r go text i ∙ ap (onward text go) e ∙ sym (run_bind r' go text j)
+pub bind_same : {A B : Type 0} (r r' : Reader A) (go : A → Reader B) (text : List ℕ) (i j : ℕ) → run r text i ≡ run r' text j → run (r >>= go) text i ≡ run (r' >>= go) text j
+bind_same r r' go text i j e = run_bind r go text i ∙ ap (onward text go) e ∙ sym (run_bind r' go text j)
 
-pub implied-words : (before : List Formula) (q : Formula) → formula_words (implied before q) ≡ chain_words before ++ formula_words q
+pub implied_words : (before : List Formula) (q : Formula) → formula_words (implied before q) ≡ chain_words before ++ formula_words q
 unfolding implied chain_words formula_words
-implied-words [] q = refl
-implied-words (p ∷ before) q = implied-words before (implies p q) ∙ sym (append_assoc (chain_words before) (pos 5 ∷ pos 3 ∷ formula_words p) (formula_words q))
+implied_words [] q = refl
+implied_words (p ∷ before) q = implied_words before (implies p q) ∙ sym (append_assoc (chain_words before) (pos 5 ∷ pos 3 ∷ formula_words p) (formula_words q))

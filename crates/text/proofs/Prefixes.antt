@@ -7,28 +7,28 @@ use Rattle.grammar.specs.Text.{Prefix}
 use Rattle.text.specs.declared.prefix.Prefix.{Prefix as Quantified}
 use Rattle.text.specs.Prefix.{PrefixRead, PrefixReads}
 
-pub three-of-four : {A : Type 0} (xs : List A) (d : A) (k : ℕ) → length xs ≡ 4 → k ≤ 3 → take k (get_or xs 0 d ∷ get_or xs 1 d ∷ get_or xs 2 d ∷ []) ≡ take k xs
-three-of-four [] d k e h = absurd (omega arith)
-three-of-four (a ∷ []) d k e h = absurd (omega arith)
-three-of-four (a ∷ b ∷ []) d k e h = absurd (omega arith)
-three-of-four (a ∷ b ∷ c ∷ xs) d zero e h = refl
-three-of-four (a ∷ b ∷ c ∷ xs) d (suc zero) e h = refl
-three-of-four (a ∷ b ∷ c ∷ xs) d (suc (suc zero)) e h = refl
-three-of-four (a ∷ b ∷ c ∷ xs) d (suc (suc (suc zero))) e h = refl
-three-of-four (a ∷ b ∷ c ∷ xs) d (suc (suc (suc (suc k)))) e h = absurd (omega arith)
+pub three_of_four : {A : Type 0} (xs : List A) (d : A) (k : ℕ) → length xs ≡ 4 → k ≤ 3 → take k (get_or xs 0 d ∷ get_or xs 1 d ∷ get_or xs 2 d ∷ []) ≡ take k xs
+three_of_four [] d k e h = absurd (omega arith)
+three_of_four (a ∷ []) d k e h = absurd (omega arith)
+three_of_four (a ∷ b ∷ []) d k e h = absurd (omega arith)
+three_of_four (a ∷ b ∷ c ∷ xs) d zero e h = refl
+three_of_four (a ∷ b ∷ c ∷ xs) d (suc zero) e h = refl
+three_of_four (a ∷ b ∷ c ∷ xs) d (suc (suc zero)) e h = refl
+three_of_four (a ∷ b ∷ c ∷ xs) d (suc (suc (suc zero))) e h = refl
+three_of_four (a ∷ b ∷ c ∷ xs) d (suc (suc (suc (suc k)))) e h = absurd (omega arith)
 
-pub prefix-refused : (n : ℕ) (o : Outcome Prefix) (r : Result Quantified Fault) (at : ℕ) (e : Fault) → o ≡ Refused (refusal_at e at) → IsErrAnd r (λ y. y ≡ e) → PrefixRead n o r at
-prefix-refused n o (Ok v) at e p q = absurd q
-prefix-refused n o (Err f) at e p q = p ∙ ap (λ g. Refused (refusal_at g at)) (sym q)
+pub prefix_refused : (n : ℕ) (o : Outcome Prefix) (r : Result Quantified Fault) (at : ℕ) (e : Fault) → o ≡ Refused (refusal_at e at) → IsErrAnd r (λ y. y ≡ e) → PrefixRead n o r at
+prefix_refused n o (Ok v) at e p q = absurd q
+prefix_refused n o (Err f) at e p q = p ∙ ap (λ g. Refused (refusal_at g at)) (sym q)
 
-pub prefixes-refused : (o : Outcome Prefix) (r : Result Quantified Fault) (at : ℕ) (e : Fault) → o ≡ Refused (refusal_at e at) → IsErrAnd r (λ y. y ≡ e) → PrefixReads o r at
-prefixes-refused o (Ok v) at e p q = absurd q
-prefixes-refused o (Err f) at e p q = p ∙ ap (λ g. Refused (refusal_at g at)) (sym q)
+pub prefixes_refused : (o : Outcome Prefix) (r : Result Quantified Fault) (at : ℕ) (e : Fault) → o ≡ Refused (refusal_at e at) → IsErrAnd r (λ y. y ≡ e) → PrefixReads o r at
+prefixes_refused o (Ok v) at e p q = absurd q
+prefixes_refused o (Err f) at e p q = p ∙ ap (λ g. Refused (refusal_at g at)) (sym q)
 
 map-behind : (qs : List Bool) (q : Bool) → map quantifier_word (qs ++ (q ∷ [])) ≡ map quantifier_word qs ++ (quantifier_word q ∷ [])
 map-behind [] q = refl
 map-behind (p ∷ qs) q = ap {B = List ℤ} (λ l. quantifier_word p ∷ l) (map-behind qs q)
 
 -- the word of one quantifier more
-pub one-more-word : (qs : List Bool) (i : ℕ) → i < length qs → map quantifier_word (take i qs) ++ (quantifier_word (get_or qs i false) ∷ []) ≡ map quantifier_word (take (i + 1) qs)
-one-more-word qs i h = sym (ap (λ n. map quantifier_word (take n qs)) (add-one i) ∙ ap (map quantifier_word) (take-suc qs i false h) ∙ map-behind (take i qs) (get_or qs i false))
+pub one_more_word : (qs : List Bool) (i : ℕ) → i < length qs → map quantifier_word (take i qs) ++ (quantifier_word (get_or qs i false) ∷ []) ≡ map quantifier_word (take (i + 1) qs)
+one_more_word qs i h = sym (ap (λ n. map quantifier_word (take n qs)) (add-one i) ∙ ap (map quantifier_word) (take-suc qs i false h) ∙ map-behind (take i qs) (get_or qs i false))

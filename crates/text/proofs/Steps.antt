@@ -16,7 +16,7 @@ use Rattle.text.specs.Piece.{claim_of}
 use Rattle.text.specs.Outcome.{outcome_of}
 use Rattle.text.specs.Reads.{ReadAs}
 use Rattle.text.specs.Sheet.{Holds}
-use Rattle.text.proofs.Sheets.{same-words}
+use Rattle.text.proofs.Sheets.{same_words}
 
 -- the same outcome says the same
 pub read_by : {A V : Type 0} (shows : A → V → Type 0) (o o' : Outcome A) (r : Result V Fault) (at : ℕ) → o ≡ o' → ReadAs shows o' r at → ReadAs shows o r at
@@ -24,14 +24,14 @@ read_by shows o o' (Ok v) at e h = (h.0, e ∙ h.1, h.2)
 read_by shows o o' (Err f) at e h = e ∙ h
 
 -- what is shown may be shown otherwise
-pub shown-as : {A V : Type 0} (shows shows' : A → V → Type 0) (o : Outcome A) (r : Result V Fault) (at : ℕ) → ((a : A) (v : V) → shows a v → shows' a v) →
+pub shown_as : {A V : Type 0} (shows shows' : A → V → Type 0) (o : Outcome A) (r : Result V Fault) (at : ℕ) → ((a : A) (v : V) → shows a v → shows' a v) →
     ReadAs shows o r at → ReadAs shows' o r at
-shown-as shows shows' o (Ok v) at g h = (h.0, h.1, g h.0 v h.2)
-shown-as shows shows' o (Err f) at g h = h
+shown_as shows shows' o (Ok v) at g h = (h.0, h.1, g h.0 v h.2)
+shown_as shows shows' o (Err f) at g h = h
 
-pub refused-by : {A V : Type 0} (shows : A → V → Type 0) (o : Outcome A) (r : Result V Fault) (at : ℕ) (e : Fault) → o ≡ Refused (refusal_at e at) → IsErrAnd r (λ y. y ≡ e) → ReadAs shows o r at
-refused-by shows o (Ok v) at e p q = absurd q
-refused-by shows o (Err f) at e p q = p ∙ ap (λ g. Refused (refusal_at g at)) (sym q)
+pub refused_by : {A V : Type 0} (shows : A → V → Type 0) (o : Outcome A) (r : Result V Fault) (at : ℕ) (e : Fault) → o ≡ Refused (refusal_at e at) → IsErrAnd r (λ y. y ≡ e) → ReadAs shows o r at
+refused_by shows o (Ok v) at e p q = absurd q
+refused_by shows o (Err f) at e p q = p ∙ ap (λ g. Refused (refusal_at g at)) (sym q)
 
 pub chose : {A : Type 0} (b : Bool) (x y : Reader A) (text : List ℕ) (i : ℕ) → b ≡ true → run (cond b x y) text i ≡ run x text i
 chose b x y text i e = ap (λ b. run (cond b x y) text i) e
@@ -47,51 +47,51 @@ closes shows r a text i (Ok v) at e s = (a, goes_on r (λ _. Give a) text i v at
 closes shows r a text i (Err f) at e s = stops r (λ _. Give a) text i (refusal_at f at) e
 
 -- the readers one level deeper
-pub no_deeper-sum : (names : List Word) (d : ℕ) → d ≡ 0 → (nest names d).sum ≡ Refuse Deep
+pub no_deeper_sum : (names : List Word) (d : ℕ) → d ≡ 0 → (nest names d).sum ≡ Refuse Deep
 unfolding nest
-no_deeper-sum names zero e = refl
-no_deeper-sum names (suc d) e = absurd (omega arith)
+no_deeper_sum names zero e = refl
+no_deeper_sum names (suc d) e = absurd (omega arith)
 
-pub deeper-sum : (names : List Word) (d : ℕ) → (d ≡ 0 → ⊥) → (nest names d).sum ≡ (sum names (nest names (d - 1)) false >>= (λ s. Give s.term))
+pub deeper_sum : (names : List Word) (d : ℕ) → (d ≡ 0 → ⊥) → (nest names d).sum ≡ (sum names (nest names (d - 1)) false >>= (λ s. Give s.term))
 unfolding nest
-deeper-sum names zero n = absurd (n refl)
-deeper-sum names (suc d) n = let e : suc d - 1 ≡ d = omega arith in ap (λ k. sum names (nest names k) false >>= (λ s. Give s.term)) (sym e)
+deeper_sum names zero n = absurd (n refl)
+deeper_sum names (suc d) n = let e : suc d - 1 ≡ d = omega arith in ap (λ k. sum names (nest names k) false >>= (λ s. Give s.term)) (sym e)
 
-pub no_deeper-product : (names : List Word) (d : ℕ) → d ≡ 0 → (nest names d).product ≡ Refuse Deep
+pub no_deeper_product : (names : List Word) (d : ℕ) → d ≡ 0 → (nest names d).product ≡ Refuse Deep
 unfolding nest
-no_deeper-product names zero e = refl
-no_deeper-product names (suc d) e = absurd (omega arith)
+no_deeper_product names zero e = refl
+no_deeper_product names (suc d) e = absurd (omega arith)
 
-pub deeper-product : (names : List Word) (d : ℕ) → (d ≡ 0 → ⊥) → (nest names d).product ≡ product names (nest names (d - 1))
+pub deeper_product : (names : List Word) (d : ℕ) → (d ≡ 0 → ⊥) → (nest names d).product ≡ product names (nest names (d - 1))
 unfolding nest
-deeper-product names zero n = absurd (n refl)
-deeper-product names (suc d) n = let e : suc d - 1 ≡ d = omega arith in ap (λ k. product names (nest names k)) (sym e)
+deeper_product names zero n = absurd (n refl)
+deeper_product names (suc d) n = let e : suc d - 1 ≡ d = omega arith in ap (λ k. product names (nest names k)) (sym e)
 
 pub regrouped : (s : Sheet) (xs ys zs : List ℤ) → Holds s ((xs ++ ys) ++ zs) → Holds s (xs ++ (ys ++ zs))
-regrouped s xs ys zs held = same-words s ((xs ++ ys) ++ zs) (xs ++ (ys ++ zs)) (append_assoc xs ys zs) held
+regrouped s xs ys zs held = same_words s ((xs ++ ys) ++ zs) (xs ++ (ys ++ zs)) (append_assoc xs ys zs) held
 
 pub ungrouped : (s : Sheet) (xs ys zs : List ℤ) → Holds s (xs ++ (ys ++ zs)) → Holds s ((xs ++ ys) ++ zs)
-ungrouped s xs ys zs held = same-words s (xs ++ (ys ++ zs)) ((xs ++ ys) ++ zs) (sym (append_assoc xs ys zs)) held
+ungrouped s xs ys zs held = same_words s (xs ++ (ys ++ zs)) ((xs ++ ys) ++ zs) (sym (append_assoc xs ys zs)) held
 
-pub no_deeper-atom : (names : List Word) (d : ℕ) → d ≡ 0 → (nest names d).atom ≡ Refuse Deep
+pub no_deeper_atom : (names : List Word) (d : ℕ) → d ≡ 0 → (nest names d).atom ≡ Refuse Deep
 unfolding nest
-no_deeper-atom names zero e = refl
-no_deeper-atom names (suc d) e = absurd (omega arith)
+no_deeper_atom names zero e = refl
+no_deeper_atom names (suc d) e = absurd (omega arith)
 
-pub deeper-atom : (names : List Word) (d : ℕ) → (d ≡ 0 → ⊥) → (nest names d).atom ≡ atom names (nest names (d - 1))
+pub deeper_atom : (names : List Word) (d : ℕ) → (d ≡ 0 → ⊥) → (nest names d).atom ≡ atom names (nest names (d - 1))
 unfolding nest
-deeper-atom names zero n = absurd (n refl)
-deeper-atom names (suc d) n = let e : suc d - 1 ≡ d = omega arith in ap (λ k. atom names (nest names k)) (sym e)
+deeper_atom names zero n = absurd (n refl)
+deeper_atom names (suc d) n = let e : suc d - 1 ≡ d = omega arith in ap (λ k. atom names (nest names k)) (sym e)
 
-pub no_deeper-formula : (names : List Word) (d : ℕ) → d ≡ 0 → (nest names d).formula ≡ Refuse Deep
+pub no_deeper_formula : (names : List Word) (d : ℕ) → d ≡ 0 → (nest names d).formula ≡ Refuse Deep
 unfolding nest
-no_deeper-formula names zero e = refl
-no_deeper-formula names (suc d) e = absurd (omega arith)
+no_deeper_formula names zero e = refl
+no_deeper_formula names (suc d) e = absurd (omega arith)
 
-pub deeper-formula : (names : List Word) (d : ℕ) → (d ≡ 0 → ⊥) → (nest names d).formula ≡ equivalence names (nest names (d - 1))
+pub deeper_formula : (names : List Word) (d : ℕ) → (d ≡ 0 → ⊥) → (nest names d).formula ≡ equivalence names (nest names (d - 1))
 unfolding nest
-deeper-formula names zero n = absurd (n refl)
-deeper-formula names (suc d) n = let e : suc d - 1 ≡ d = omega arith in ap (λ k. equivalence names (nest names k)) (sym e)
+deeper_formula names zero n = absurd (n refl)
+deeper_formula names (suc d) n = let e : suc d - 1 ≡ d = omega arith in ap (λ k. equivalence names (nest names k)) (sym e)
 
 -- where a formula must stand
 pub claims : (after : Sheet) (xs : List ℤ) (a : Piece) (k : Kind) (b : Bool) (text : List ℕ) (i : ℕ) → PieceShown after xs a k → claim_of k ≡ Ok b →
@@ -102,10 +102,10 @@ claims after xs (OfTerm t) (IsClaim c) b text i h e = absurd h
 claims after xs (OfClaim p) IsTerm b text i h e = absurd h
 claims after xs (OfClaim p) (IsClaim c) b text i h e = let same : c ≡ b = cc in (p, refl, (h.0 ∙ same, h.1))
 
-pub no-claim : (after : Sheet) (xs : List ℤ) (a : Piece) (k : Kind) (f : Fault) (text : List ℕ) (i : ℕ) → PieceShown after xs a k → claim_of k ≡ Err f →
+pub no_claim : (after : Sheet) (xs : List ℤ) (a : Piece) (k : Kind) (f : Fault) (text : List ℕ) (i : ℕ) → PieceShown after xs a k → claim_of k ≡ Err f →
     run (claimed a) text i ≡ Refused (refusal_at f i)
 unfolding claimed run
-no-claim after xs (OfTerm t) IsTerm f text i h e = let same : Unfit ≡ f = cc in ap (λ g. Refused (refusal_at g i)) same
-no-claim after xs (OfTerm t) (IsClaim c) f text i h e = absurd h
-no-claim after xs (OfClaim p) IsTerm f text i h e = absurd h
-no-claim after xs (OfClaim p) (IsClaim c) f text i h e = let z : ◌≡◌ {A = ℕ} 0 1 = cc in absurd (omega arith)
+no_claim after xs (OfTerm t) IsTerm f text i h e = let same : Unfit ≡ f = cc in ap (λ g. Refused (refusal_at g i)) same
+no_claim after xs (OfTerm t) (IsClaim c) f text i h e = absurd h
+no_claim after xs (OfClaim p) IsTerm f text i h e = absurd h
+no_claim after xs (OfClaim p) (IsClaim c) f text i h e = let z : ◌≡◌ {A = ℕ} 0 1 = cc in absurd (omega arith)

@@ -4,9 +4,9 @@ use Rattle.poly.specs.Modest.{magnitude}
 use Rattle.terms.specs.Monomial.{Monomial, monomial}
 use Rattle.terms.specs.Operations.{add_terms, neg_terms, scale_terms, add_product}
 use Rattle.terms.specs.Sizes.{KeysBelow, SizesAtMost}
-use Rattle.terms.proofs.Bounds.{size-neg, length-scaled, length-product, keys-scaled, keys-product, sizes-scaled, sizes-modest-product}
+use Rattle.terms.proofs.Bounds.{size_neg, length_scaled, length_product, keys_scaled, keys_product, sizes_scaled, sizes_modest_product}
 use Rattle.packed.specs.Terms.{term_at}
-use Rattle.packed.proofs.Places.{key-at, size-at}
+use Rattle.packed.proofs.Places.{key_at, size_at}
 use Rattle.packed.proofs.Signed.{length-signed}
 use Rattle.packed.proofs.Lowered.{drop-keys, drop-sizes}
 use Rattle.wide.specs.Merging.{Addable}
@@ -22,7 +22,7 @@ keys-negated hi (m ∷ ms) k = (k.0, keys-negated hi ms k.1)
 sizes-negated : (b : ℕ) (ts : List Monomial) → SizesAtMost b ts → SizesAtMost b (neg_terms ts)
 unfolding neg_terms SizesAtMost
 sizes-negated b [] k = tt
-sizes-negated b (m ∷ ms) k = let h = k.0 in (omega (arith, size-neg m.times), sizes-negated b ms k.1)
+sizes-negated b (m ∷ ms) k = let h = k.0 in (omega (arith, size_neg m.times), sizes-negated b ms k.1)
 
 -- of at most 64 monomials, with keys below 2^19 and coefficients below 2^27
 pub record Factor (ts : List Monomial) : Type 0 where
@@ -37,52 +37,52 @@ signed-factor false ts f = f
 drop-factor : (i : ℕ) (ts : List Monomial) → Factor ts → Factor (drop i ts)
 drop-factor i ts f = record { keys = drop-keys (2 ^ 19) i ts f.keys; sizes = drop-sizes (2 ^ 27 - 1) i ts f.sizes; short = omega (arith, length-drop i ts, f.short) }
 
-pub product-none : (p q acc : List Monomial) (i : ℕ) → length p ≤ i → add_product (drop i p) q acc ≡ acc
+pub product_none : (p q acc : List Monomial) (i : ℕ) → length p ≤ i → add_product (drop i p) q acc ≡ acc
 unfolding add_product
-product-none p q acc i h = ap (λ w. add_product w q acc) (drop_of_length-le p h)
+product_none p q acc i h = ap (λ w. add_product w q acc) (drop_of_length-le p h)
 
-product-cons : (m : Monomial) (ms q acc : List Monomial) → add_product (m ∷ ms) q acc ≡ add_terms (scale_terms m.key m.times q) (add_product ms q acc)
+product_cons : (m : Monomial) (ms q acc : List Monomial) → add_product (m ∷ ms) q acc ≡ add_terms (scale_terms m.key m.times q) (add_product ms q acc)
 unfolding add_product
-product-cons m ms q acc = refl
+product_cons m ms q acc = refl
 
-keys-wider : (a b : ℕ) (ts : List Monomial) → a ≤ b → KeysBelow a ts → KeysBelow b ts
+keys_wider : (a b : ℕ) (ts : List Monomial) → a ≤ b → KeysBelow a ts → KeysBelow b ts
 unfolding KeysBelow
-keys-wider a b [] h k = tt
-keys-wider a b (m ∷ ms) h k = let g = k.0 in (omega arith, keys-wider a b ms h k.1)
+keys_wider a b [] h k = tt
+keys_wider a b (m ∷ ms) h k = let g = k.0 in (omega arith, keys_wider a b ms h k.1)
 
-sizes-wide : (a b : ℕ) (ts : List Monomial) → a ≤ b → SizesAtMost a ts → SizesAtMost b ts
+sizes_wide : (a b : ℕ) (ts : List Monomial) → a ≤ b → SizesAtMost a ts → SizesAtMost b ts
 unfolding SizesAtMost
-sizes-wide a b [] h k = tt
-sizes-wide a b (m ∷ ms) h k = let g = k.0 in (omega arith, sizes-wide a b ms h k.1)
+sizes_wide a b [] h k = tt
+sizes_wide a b (m ∷ ms) h k = let g = k.0 in (omega arith, sizes_wide a b ms h k.1)
 
 module _ (p q acc : List Monomial) (f : Factor p) (g : Factor q) (a : OneProduct acc) where
   pub product-step : (j : ℕ) (m : Monomial) (list list' : List Monomial) → 0 < j → j ≤ length p → m ≡ term_at p (j - 1) → list ≡ add_product (drop j p) q acc →
       list' ≡ add_terms (scale_terms m.key m.times q) list → list' ≡ add_product (drop (j - 1) p) q acc
   product-step j m list list' h l e k n =
       let back : j - 1 + 1 ≡ j = omega arith in
-      n ∙ ap₂ add_terms (ap (λ t. scale_terms t.key t.times q) e) k ∙ sym (product-cons (term_at p (j - 1)) (drop j p) q acc) ∙
+      n ∙ ap₂ add_terms (ap (λ t. scale_terms t.key t.times q) e) k ∙ sym (product_cons (term_at p (j - 1)) (drop j p) q acc) ∙
       ap (λ w. add_product w q acc) (ap (λ w. term_at p (j - 1) ∷ drop w p) (sym back) ∙ sym (at_place p (j - 1) (omega arith)))
 
   one_size : (m : Monomial) → magnitude m.times ≤ 2 ^ 27 - 1 → SizesAtMost (2 ^ 54) (scale_terms m.key m.times q)
-  one_size m h = sizes-wide (magnitude m.times * (2 ^ 27 - 1)) (2 ^ 54) _ (omega (arith, mul-le-mul_right {m = magnitude m.times} {n = 2 ^ 27 - 1} (2 ^ 27 - 1) h)) (sizes-scaled (2 ^ 27 - 1) m.key m.times q g.sizes)
+  one_size m h = sizes_wide (magnitude m.times * (2 ^ 27 - 1)) (2 ^ 54) _ (omega (arith, mul-le-mul_right {m = magnitude m.times} {n = 2 ^ 27 - 1} (2 ^ 27 - 1) h)) (sizes_scaled (2 ^ 27 - 1) m.key m.times q g.sizes)
 
-  pub product-addable : (j : ℕ) (m : Monomial) (list : List Monomial) → 0 < j → j ≤ length p → m ≡ term_at p (j - 1) → list ≡ add_product (drop j p) q acc →
+  pub product_addable : (j : ℕ) (m : Monomial) (list : List Monomial) → 0 < j → j ≤ length p → m ≡ term_at p (j - 1) → list ≡ add_product (drop j p) q acc →
       Addable (scale_terms m.key m.times q) list
-  product-addable j m list h l e k =
+  product_addable j m list h l e k =
       let d = drop-factor j p f in
-      let key : m.key < 2 ^ 19 = omega (arith, ap (λ t. t.key) e, key-at (2 ^ 19) p (j - 1) f.keys (omega arith)) in
-      let size : magnitude m.times ≤ 2 ^ 27 - 1 = omega (arith, ap (λ t. magnitude t.times) e, size-at (2 ^ 27 - 1) p (j - 1) f.sizes (omega arith)) in
+      let key : m.key < 2 ^ 19 = omega (arith, ap (λ t. t.key) e, key_at (2 ^ 19) p (j - 1) f.keys (omega arith)) in
+      let size : magnitude m.times ≤ 2 ^ 27 - 1 = omega (arith, ap (λ t. magnitude t.times) e, size_at (2 ^ 27 - 1) p (j - 1) f.sizes (omega arith)) in
       record {
-        most-left = 2 ^ 54;
-        most-right = 2 ^ 60 - 1 + (2 ^ 60 - 1);
-        keys-left = keys-wider (m.key + 2 ^ 19) (2 ^ 63) _ (omega arith) (keys-scaled (2 ^ 19) m.key m.times q g.keys);
-        keys-right = subst (KeysBelow (2 ^ 63)) (sym k) (keys-wider (2 ^ 19 + 2 ^ 19) (2 ^ 63) _ (omega arith) (keys-product (2 ^ 19) (2 ^ 19) (drop j p) q acc d.keys g.keys a.keys));
-        sizes-left = one_size m size;
-        sizes-right = subst (SizesAtMost (2 ^ 60 - 1 + (2 ^ 60 - 1))) (sym k) (sizes-modest-product (2 ^ 60 - 1) (drop j p) q acc d.short d.sizes g.sizes a.sizes);
+        most_left = 2 ^ 54;
+        most_right = 2 ^ 60 - 1 + (2 ^ 60 - 1);
+        keys_left = keys_wider (m.key + 2 ^ 19) (2 ^ 63) _ (omega arith) (keys_scaled (2 ^ 19) m.key m.times q g.keys);
+        keys_right = subst (KeysBelow (2 ^ 63)) (sym k) (keys_wider (2 ^ 19 + 2 ^ 19) (2 ^ 63) _ (omega arith) (keys_product (2 ^ 19) (2 ^ 19) (drop j p) q acc d.keys g.keys a.keys));
+        sizes_left = one_size m size;
+        sizes_right = subst (SizesAtMost (2 ^ 60 - 1 + (2 ^ 60 - 1))) (sym k) (sizes_modest_product (2 ^ 60 - 1) (drop j p) q acc d.short d.sizes g.sizes a.sizes);
         fit = omega arith;
         room =
             let few : length (drop j p) ≤ 63 = omega (arith, length-drop j p, f.short) in
-            omega (arith, length-scaled m.key m.times q, ap length k, length-product (drop j p) q acc, mul-le-mul_right {m = length (drop j p)} {n = 63} (length q) few, g.short, a.short);
+            omega (arith, length_scaled m.key m.times q, ap length k, length_product (drop j p) q acc, mul-le-mul_right {m = length (drop j p)} {n = 63} (length q) few, g.short, a.short);
       }
 
 -- nothing is at most one product
@@ -96,26 +96,26 @@ unfolding KeysBelow SizesAtMost
 one_product p q list f g e =
     subst OneProduct (sym e)
     (record {
-      keys = keys-product (2 ^ 19) (2 ^ 19) p q [] f.keys g.keys tt;
-      sizes = sizes-modest-product 0 p q [] f.short f.sizes g.sizes tt;
-      short = let n = f.short in omega (arith, length-product p q [], mul-le-mul_right {m = length p} {n = 64} (length q) n, g.short);
+      keys = keys_product (2 ^ 19) (2 ^ 19) p q [] f.keys g.keys tt;
+      sizes = sizes_modest_product 0 p q [] f.short f.sizes g.sizes tt;
+      short = let n = f.short in omega (arith, length_product p q [], mul-le-mul_right {m = length p} {n = 64} (length q) n, g.short);
     })
 
 -- one monomial times a stored polynomial, and another stored polynomial
-pub factors-addable : (m : Monomial) (q list : List Monomial) → m.key < 2 ^ 19 → magnitude m.times ≤ 2 ^ 27 - 1 → Factor q → Factor list → Addable (scale_terms m.key m.times q) list
+pub factors_addable : (m : Monomial) (q list : List Monomial) → m.key < 2 ^ 19 → magnitude m.times ≤ 2 ^ 27 - 1 → Factor q → Factor list → Addable (scale_terms m.key m.times q) list
 unfolding KeysBelow SizesAtMost
-factors-addable m q list key size g k =
+factors_addable m q list key size g k =
     record {
-      most-left = 2 ^ 54;
-      most-right = 2 ^ 27 - 1;
-      keys-left = keys-wider (m.key + 2 ^ 19) (2 ^ 63) _ (omega arith) (keys-scaled (2 ^ 19) m.key m.times q g.keys);
-      keys-right = keys-wider (2 ^ 19) (2 ^ 63) list (omega arith) k.keys;
-      sizes-left =
-          sizes-wide (magnitude m.times * (2 ^ 27 - 1)) (2 ^ 54) _ (omega (arith, mul-le-mul_right {m = magnitude m.times} {n = 2 ^ 27 - 1} (2 ^ 27 - 1) size))
-          (sizes-scaled (2 ^ 27 - 1) m.key m.times q g.sizes);
-      sizes-right = k.sizes;
+      most_left = 2 ^ 54;
+      most_right = 2 ^ 27 - 1;
+      keys_left = keys_wider (m.key + 2 ^ 19) (2 ^ 63) _ (omega arith) (keys_scaled (2 ^ 19) m.key m.times q g.keys);
+      keys_right = keys_wider (2 ^ 19) (2 ^ 63) list (omega arith) k.keys;
+      sizes_left =
+          sizes_wide (magnitude m.times * (2 ^ 27 - 1)) (2 ^ 54) _ (omega (arith, mul-le-mul_right {m = magnitude m.times} {n = 2 ^ 27 - 1} (2 ^ 27 - 1) size))
+          (sizes_scaled (2 ^ 27 - 1) m.key m.times q g.sizes);
+      sizes_right = k.sizes;
       fit = omega arith;
-      room = omega (arith, length-scaled m.key m.times q, g.short, k.short);
+      room = omega (arith, length_scaled m.key m.times q, g.short, k.short);
     }
 
 one-times : (z : ℤ) → pos 1 *ℤ z ≡ z

@@ -5,8 +5,8 @@ use Rattle.std.proofs.lemmas.List.{get_or-drop}
 use Rattle.terms.specs.Monomial.{Monomial, monomial, Rising}
 use Rattle.terms.specs.Operations.{add_product}
 use Rattle.terms.specs.LeadingTerms.{lowered, slopes, count_below}
-use Rattle.terms.proofs.Integers.{NotZero, not-zero-mul}
-use Rattle.terms.proofs.Rises.{rising-wider, rising-neg, rising-product}
+use Rattle.terms.proofs.Integers.{NotZero, not_zero_mul}
+use Rattle.terms.proofs.Rises.{rising_wider, rising-neg, rising-product}
 use Rattle.packed.specs.declared.stretch.Stretch.{Stretch}
 use Rattle.packed.specs.Terms.{terms_in, term_at}
 use Rattle.packed.specs.StretchTerms.{stretch_terms}
@@ -19,7 +19,7 @@ unfolding Rising
 drop-rising lo hi ts zero r = r
 drop-rising lo hi [] (suc i) r = tt
 drop-rising lo hi (m ∷ ms) (suc i) r =
-    let l = r.0 in rising-wider (suc m.key) hi lo hi (drop i ms) (omega arith) (omega arith) (drop-rising (suc m.key) hi ms i r.3)
+    let l = r.0 in rising_wider (suc m.key) hi lo hi (drop i ms) (omega arith) (omega arith) (drop-rising (suc m.key) hi ms i r.3)
 
 lowered-rising : (d lo hi : ℕ) (ts : List Monomial) → Rising lo hi ts → ((i : ℕ) → i < length ts → d ≤ (term_at ts i).key) → Rising (lo - d) hi (lowered d ts)
 unfolding Rising lowered
@@ -49,10 +49,10 @@ slopes-rising n lo hi (m ∷ ms) r h =
     let more = slopes-rising n (suc m.key) hi ms r.3 (λ i g. h (suc i) (suc-le-suc g)) in
     let e : suc m.key - 32 ^ n ≡ suc (m.key - 32 ^ n) = omega arith in
     let From : ℕ → Type 0 = λ j. Rising j hi (slopes n ms) in
-    (omega arith, omega arith, not-zero-mul (pos (m.key / 32 ^ n)) m.times (some-times m.key (32 ^ n) (one-le-pow n 32 (omega arith)) k) r.2, subst From e more)
+    (omega arith, omega arith, not_zero_mul (pos (m.key / 32 ^ n)) m.times (some-times m.key (32 ^ n) (one-le-pow n 32 (omega arith)) k) r.2, subst From e more)
 
-pub stretch-rising : (s : Stretch) → Rising 0 (2 ^ 19) (stretch_terms s)
-stretch-rising s =
+pub stretch_rising : (s : Stretch) → Rising 0 (2 ^ 19) (stretch_terms s)
+stretch_rising s =
     let ts = terms_in s.view in
     let From : ℕ → Type 0 = λ n. Rising n (2 ^ 19) (stretch_terms s) in
     let e : 0 - s.down ≡ 0 = omega arith in
@@ -78,7 +78,7 @@ signed-rising true lo hi ts r = rising-neg lo hi ts r
 signed-rising false lo hi ts r = r
 
 pub wider : (list ts : List Monomial) → list ≡ ts → Rising 0 (2 ^ 19) ts → Rising 0 (2 ^ 20) list
-wider list ts e r = subst (Rising 0 (2 ^ 20)) (sym e) (rising-wider 0 (2 ^ 19) 0 (2 ^ 20) ts (omega arith) (omega arith) r)
+wider list ts e r = subst (Rising 0 (2 ^ 20)) (sym e) (rising_wider 0 (2 ^ 19) 0 (2 ^ 20) ts (omega arith) (omega arith) r)
 
 -- at most two products
 pub product-rising : (p q acc list : List Monomial) → list ≡ add_product p q acc → Rising 0 (2 ^ 19) p → Rising 0 (2 ^ 19) q → Rising 0 (2 ^ 20) acc → Rising 0 (2 ^ 20) list
@@ -88,6 +88,6 @@ pub one-rising : (k : ℕ) (z : ℤ) (list : List Monomial) → list ≡ monomia
 unfolding Rising
 one-rising k z list e h n = subst (Rising 0 (2 ^ 20)) (sym e) (omega arith, h, n, tt)
 
-pub none-rising : (list : List Monomial) → list ≡ [] → Rising 0 (2 ^ 20) list
+pub none_rising : (list : List Monomial) → list ≡ [] → Rising 0 (2 ^ 20) list
 unfolding Rising
-none-rising list e = subst (Rising 0 (2 ^ 20)) (sym e) tt
+none_rising list e = subst (Rising 0 (2 ^ 20)) (sym e) tt

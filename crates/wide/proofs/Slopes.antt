@@ -8,33 +8,33 @@ use Rattle.packed.specs.Terms.{term_at}
 use Rattle.wide.specs.Slopes.{slope_by}
 use Rattle.wide.proofs.Merging.{at_place}
 
-slopes-cons : (n : ℕ) (m : Monomial) (ms : List Monomial) → slopes n (m ∷ ms) ≡ slope_by (32 ^ n) m ∷ slopes n ms
+slopes_cons : (n : ℕ) (m : Monomial) (ms : List Monomial) → slopes n (m ∷ ms) ≡ slope_by (32 ^ n) m ∷ slopes n ms
 unfolding slopes
-slopes-cons n m ms = refl
+slopes_cons n m ms = refl
 
-pub slopes-none : (n : ℕ) → slopes n [] ≡ []
+pub slopes_none : (n : ℕ) → slopes n [] ≡ []
 unfolding slopes
-slopes-none n = refl
+slopes_none n = refl
 
 -- one more of the derivative
 pub slopes-next : (n : ℕ) (ts out out' : List Monomial) (i : ℕ) (m : Monomial) → i < length ts → m ≡ slope_by (32 ^ n) (term_at ts i) → out' ≡ out ++ m ∷ [] →
     out' ++ slopes n (drop (i + 1) ts) ≡ out ++ slopes n (drop i ts)
 slopes-next n ts out out' i m h e q =
     ap (λ w. w ++ slopes n (drop (i + 1) ts)) q ∙ append_assoc out (m ∷ []) (slopes n (drop (i + 1) ts)) ∙
-    ap (λ w. out ++ w) (ap (λ x. x ∷ slopes n (drop (i + 1) ts)) e ∙ sym (slopes-cons n (term_at ts i) (drop (i + 1) ts)) ∙ ap (slopes n) (sym (at_place ts i h)))
+    ap (λ w. out ++ w) (ap (λ x. x ∷ slopes n (drop (i + 1) ts)) e ∙ sym (slopes_cons n (term_at ts i) (drop (i + 1) ts)) ∙ ap (slopes n) (sym (at_place ts i h)))
 
-pub constant-zero : (z : ℤ) → is_zero_number z ≡ true → constant_terms z ≡ []
+pub constant_zero : (z : ℤ) → is_zero_number z ≡ true → constant_terms z ≡ []
 unfolding constant_terms
-constant-zero z e = rw (e, constant_terms)
+constant_zero z e = rw (e, constant_terms)
 
-pub constant-other : (z : ℤ) → is_zero_number z ≡ false → constant_terms z ≡ monomial 0 z ∷ []
+pub constant_other : (z : ℤ) → is_zero_number z ≡ false → constant_terms z ≡ monomial 0 z ∷ []
 unfolding constant_terms
-constant-other z e = rw (e, constant_terms)
+constant_other z e = rw (e, constant_terms)
 
 pub variable-there : (n i : ℕ) → i < n → variable_terms n i ≡ monomial (32 ^ (n - suc i)) (pos 1) ∷ []
 unfolding variable_terms
 variable-there n i h = rw (lt-ltb i n h, variable_terms)
 
-pub variable-none : (n i : ℕ) → n ≤ i → variable_terms n i ≡ []
+pub variable_none : (n i : ℕ) → n ≤ i → variable_terms n i ≡ []
 unfolding variable_terms
-variable-none n i h = rw (le-ltb i n h, variable_terms)
+variable_none n i h = rw (le-ltb i n h, variable_terms)

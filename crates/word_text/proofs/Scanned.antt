@@ -5,9 +5,9 @@ use Rattle.word_text.specs.declared.scan.Place.{Place}
 use Rattle.word_text.specs.declared.scan.Progress.{Progress}
 use Rattle.word_text.specs.Scan.{stepped, goes_on, scanned, Advances}
 
-goes-nowhere : (go : Place → List ℤ → Option (List ℤ)) (s : Option Progress) (zs ws : List ℤ) → Advances s zs None ws → goes_on go s zs ≡ None
-goes-nowhere go None zs ws a = refl
-goes-nowhere go (Some s) zs ws a = let z : ◌≡◌ {A = ℕ} 0 1 = cc a.0 in absurd (omega arith)
+goes_nowhere : (go : Place → List ℤ → Option (List ℤ)) (s : Option Progress) (zs ws : List ℤ) → Advances s zs None ws → goes_on go s zs ≡ None
+goes_nowhere go None zs ws a = refl
+goes_nowhere go (Some s) zs ws a = let z : ◌≡◌ {A = ℕ} 0 1 = cc a.0 in absurd (omega arith)
 
 goes_to : (go : Place → List ℤ → Option (List ℤ)) (s : Option Progress) (zs ws : List ℤ) (q : Place) → Advances s zs (Some q) ws → goes_on go s zs ≡ go q ws
 goes_to go None zs ws q a = let z : ◌≡◌ {A = ℕ} 0 1 = cc a.0 in absurd (omega arith)
@@ -19,8 +19,8 @@ module _ (text : List ℕ) (i : ℕ) (within : i < length text) (p : Place) (zs 
   unfolding scanned
   opened = rw (add-one, drop-cons text i 0)
 
-  pub refused-inside : Advances (stepped p (get_or text i 0)) zs None ws → scanned (drop i text) p zs ≡ None
-  refused-inside a = opened ∙ goes-nowhere (scanned (drop (i + 1) text)) (stepped p (get_or text i 0)) zs ws a
+  pub refused_inside : Advances (stepped p (get_or text i 0)) zs None ws → scanned (drop i text) p zs ≡ None
+  refused_inside a = opened ∙ goes_nowhere (scanned (drop (i + 1) text)) (stepped p (get_or text i 0)) zs ws a
 
   pub read-inside : (q : Place) → Advances (stepped p (get_or text i 0)) zs (Some q) ws → scanned (drop i text) p zs ≡ scanned (drop (i + 1) text) q ws
   read-inside q a = opened ∙ goes_to (scanned (drop (i + 1) text)) (stepped p (get_or text i 0)) zs ws q a
@@ -31,8 +31,8 @@ module _ (text : List ℕ) (i : ℕ) (beyond : length text ≤ i) (p : Place) (z
   unfolding scanned
   ending = rw (drop_all i text beyond)
 
-  pub refused-at-end : Advances (stepped p 32) zs None ws → scanned (drop i text) p zs ≡ None
-  refused-at-end a = ending ∙ goes-nowhere (λ q us. Some us) (stepped p 32) zs ws a
+  pub refused_at_end : Advances (stepped p 32) zs None ws → scanned (drop i text) p zs ≡ None
+  refused_at_end a = ending ∙ goes_nowhere (λ q us. Some us) (stepped p 32) zs ws a
 
-  pub read-at-end : (q : Place) → Advances (stepped p 32) zs (Some q) ws → scanned (drop i text) p zs ≡ Some ws
-  read-at-end q a = ending ∙ goes_to (λ q us. Some us) (stepped p 32) zs ws q a
+  pub read_at_end : (q : Place) → Advances (stepped p 32) zs (Some q) ws → scanned (drop i text) p zs ≡ Some ws
+  read_at_end q a = ending ∙ goes_to (λ q us. Some us) (stepped p 32) zs ws q a

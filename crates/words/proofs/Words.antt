@@ -6,26 +6,26 @@ use Rattle.words.specs.Kind.{kind_of}
 use Rattle.words.specs.Reading.{Reading, Refused, Read, outcome, then, mapped, skipped, two, meant}
 use Rattle.words.specs.Words.{term_by, term_at, formula_by, formula_at, quantifier_of, quantifiers_at}
 
-pub term-none : (d v : ℕ) (zs : List ℤ) → d ≡ 0 → term_at d v zs ≡ Refused
+pub term_none : (d v : ℕ) (zs : List ℤ) → d ≡ 0 → term_at d v zs ≡ Refused
 unfolding term_at
-term-none zero v zs e = refl
-term-none (suc d) v zs e = absurd (omega arith)
+term_none zero v zs e = refl
+term_none (suc d) v zs e = absurd (omega arith)
 
-pub term-open : (d v : ℕ) (zs : List ℤ) → (d ≡ 0 → ⊥) → term_at d v zs ≡ then (meant kind_of zs) (term_by v (term_at (d - 1) v))
+pub term_open : (d v : ℕ) (zs : List ℤ) → (d ≡ 0 → ⊥) → term_at d v zs ≡ then (meant kind_of zs) (term_by v (term_at (d - 1) v))
 unfolding term_at
-term-open zero v zs n = absurd (n refl)
-term-open (suc d) v zs n = let e : suc d - 1 ≡ d = omega arith in ap (λ k. then (meant kind_of zs) (term_by v (term_at k v))) (sym e)
+term_open zero v zs n = absurd (n refl)
+term_open (suc d) v zs n = let e : suc d - 1 ≡ d = omega arith in ap (λ k. then (meant kind_of zs) (term_by v (term_at k v))) (sym e)
 
-pub formula-none : (d v : ℕ) (zs : List ℤ) → d ≡ 0 → formula_at d v zs ≡ Refused
+pub formula_none : (d v : ℕ) (zs : List ℤ) → d ≡ 0 → formula_at d v zs ≡ Refused
 unfolding formula_at
-formula-none zero v zs e = refl
-formula-none (suc d) v zs e = absurd (omega arith)
+formula_none zero v zs e = refl
+formula_none (suc d) v zs e = absurd (omega arith)
 
-pub formula-open : (d v : ℕ) (zs : List ℤ) → (d ≡ 0 → ⊥) →
+pub formula_open : (d v : ℕ) (zs : List ℤ) → (d ≡ 0 → ⊥) →
     formula_at d v zs ≡ then (meant kind_of zs) (formula_by (term_at (d - 1) v) (formula_at (d - 1) v))
 unfolding formula_at
-formula-open zero v zs n = absurd (n refl)
-formula-open (suc d) v zs n =
+formula_open zero v zs n = absurd (n refl)
+formula_open (suc d) v zs n =
     let e : suc d - 1 ≡ d = omega arith in ap (λ k. then (meant kind_of zs) (formula_by (term_at k v) (formula_at k v))) (sym e)
 
 -- what becomes of the parts of two of a kind becomes of the two
@@ -63,53 +63,53 @@ skipped-mapped g Refused = refl
 skipped-mapped g (Read a zs) = refl
 
 -- the level below, once the kind is known
-pub term-of-kind : (d v : ℕ) (zs rest : List ℤ) (k : Kind) → (d ≡ 0 → ⊥) → Read k rest ≡ meant kind_of zs →
+pub term_of_kind : (d v : ℕ) (zs rest : List ℤ) (k : Kind) → (d ≡ 0 → ⊥) → Read k rest ≡ meant kind_of zs →
     term_at d v zs ≡ term_by v (term_at (d - 1) v) k rest
-term-of-kind d v zs rest k n e = term-open d v zs n ∙ ap (λ m. then m (term_by v (term_at (d - 1) v))) (sym e)
+term_of_kind d v zs rest k n e = term_open d v zs n ∙ ap (λ m. then m (term_by v (term_at (d - 1) v))) (sym e)
 
-pub formula-of-kind : (d v : ℕ) (zs rest : List ℤ) (k : Kind) → (d ≡ 0 → ⊥) → Read k rest ≡ meant kind_of zs →
+pub formula_of_kind : (d v : ℕ) (zs rest : List ℤ) (k : Kind) → (d ≡ 0 → ⊥) → Read k rest ≡ meant kind_of zs →
     formula_at d v zs ≡ formula_by (term_at (d - 1) v) (formula_at (d - 1) v) k rest
-formula-of-kind d v zs rest k n e = formula-open d v zs n ∙ ap (λ m. then m (formula_by (term_at (d - 1) v) (formula_at (d - 1) v))) (sym e)
+formula_of_kind d v zs rest k n e = formula_open d v zs n ∙ ap (λ m. then m (formula_by (term_at (d - 1) v) (formula_at (d - 1) v))) (sym e)
 
-pub refused-outcome : {A E : Type 0} (r : Result A E) (after : List ℤ) → is_err r ≡ true → outcome r after ≡ Refused
-refused-outcome (Ok a) after e = let z : ◌≡◌ {A = ℕ} 0 1 = cc in absurd (omega arith)
-refused-outcome (Err x) after e = refl
+pub refused_outcome : {A E : Type 0} (r : Result A E) (after : List ℤ) → is_err r ≡ true → outcome r after ≡ Refused
+refused_outcome (Ok a) after e = let z : ◌≡◌ {A = ℕ} 0 1 = cc in absurd (omega arith)
+refused_outcome (Err x) after e = refl
 
 -- the level below, passed over
-pub skipped-term-pair : (v : ℕ) (go : List ℤ → Reading Term) (k : Kind) (zs : List ℤ) → (k ≡ Kind.Sum) ⊎ (k ≡ Kind.Product) →
+pub skipped-term_pair : (v : ℕ) (go : List ℤ → Reading Term) (k : Kind) (zs : List ℤ) → (k ≡ Kind.Sum) ⊎ (k ≡ Kind.Product) →
     mapped skipped (term_by v go k zs) ≡ then (mapped skipped (go zs)) (λ _ rest. mapped skipped (go rest))
-skipped-term-pair v go k zs (inl e) = rw e (skipped-two Sum go zs)
-skipped-term-pair v go k zs (inr e) = rw e (skipped-two Product go zs)
+skipped-term_pair v go k zs (inl e) = rw e (skipped-two Sum go zs)
+skipped-term_pair v go k zs (inr e) = rw e (skipped-two Product go zs)
 
-pub no-term : (v : ℕ) (go : List ℤ → Reading Term) (k : Kind) (zs : List ℤ) →
+pub no_term : (v : ℕ) (go : List ℤ → Reading Term) (k : Kind) (zs : List ℤ) →
     (k ≡ Kind.BelowZero) ⊎ ((k ≡ Kind.EqualsZero) ⊎ ((k ≡ Kind.Not) ⊎ ((k ≡ Kind.And) ⊎ (k ≡ Kind.Or)))) → term_by v go k zs ≡ Refused
-no-term v go k zs (inl e) = rw e
-no-term v go k zs (inr (inl e)) = rw e
-no-term v go k zs (inr (inr (inl e))) = rw e
-no-term v go k zs (inr (inr (inr (inl e)))) = rw e
-no-term v go k zs (inr (inr (inr (inr e)))) = rw e
+no_term v go k zs (inl e) = rw e
+no_term v go k zs (inr (inl e)) = rw e
+no_term v go k zs (inr (inr (inl e))) = rw e
+no_term v go k zs (inr (inr (inr (inl e)))) = rw e
+no_term v go k zs (inr (inr (inr (inr e)))) = rw e
 
 pub skipped-comparison : (term : List ℤ → Reading Term) (go : List ℤ → Reading Formula) (k : Kind) (zs : List ℤ) → (k ≡ Kind.BelowZero) ⊎ (k ≡ Kind.EqualsZero) →
     mapped skipped (formula_by term go k zs) ≡ mapped skipped (term zs)
 skipped-comparison term go k zs (inl e) = rw e (skipped-mapped BelowZero (term zs))
 skipped-comparison term go k zs (inr e) = rw e (skipped-mapped EqualsZero (term zs))
 
-pub skipped-formula-pair : (term : List ℤ → Reading Term) (go : List ℤ → Reading Formula) (k : Kind) (zs : List ℤ) → (k ≡ Kind.And) ⊎ (k ≡ Kind.Or) →
+pub skipped-formula_pair : (term : List ℤ → Reading Term) (go : List ℤ → Reading Formula) (k : Kind) (zs : List ℤ) → (k ≡ Kind.And) ⊎ (k ≡ Kind.Or) →
     mapped skipped (formula_by term go k zs) ≡ then (mapped skipped (go zs)) (λ _ rest. mapped skipped (go rest))
-skipped-formula-pair term go k zs (inl e) = rw e (skipped-two And go zs)
-skipped-formula-pair term go k zs (inr e) = rw e (skipped-two Or go zs)
+skipped-formula_pair term go k zs (inl e) = rw e (skipped-two And go zs)
+skipped-formula_pair term go k zs (inr e) = rw e (skipped-two Or go zs)
 
-pub no-formula : (term : List ℤ → Reading Term) (go : List ℤ → Reading Formula) (k : Kind) (zs : List ℤ) →
+pub no_formula : (term : List ℤ → Reading Term) (go : List ℤ → Reading Formula) (k : Kind) (zs : List ℤ) →
     (k ≡ Kind.Variable) ⊎ ((k ≡ Kind.Number) ⊎ ((k ≡ Kind.Sum) ⊎ (k ≡ Kind.Product))) → formula_by term go k zs ≡ Refused
-no-formula term go k zs (inl e) = rw e
-no-formula term go k zs (inr (inl e)) = rw e
-no-formula term go k zs (inr (inr (inl e))) = rw e
-no-formula term go k zs (inr (inr (inr e))) = rw e
+no_formula term go k zs (inl e) = rw e
+no_formula term go k zs (inr (inl e)) = rw e
+no_formula term go k zs (inr (inr (inl e))) = rw e
+no_formula term go k zs (inr (inr (inr e))) = rw e
 
-pub skipped-no-quantifier : (n : ℕ) (zs : List ℤ) → n ≡ 0 → mapped skipped (quantifiers_at n zs) ≡ Read tt zs
+pub skipped_no_quantifier : (n : ℕ) (zs : List ℤ) → n ≡ 0 → mapped skipped (quantifiers_at n zs) ≡ Read tt zs
 unfolding quantifiers_at
-skipped-no-quantifier zero zs e = refl
-skipped-no-quantifier (suc n) zs e = absurd (omega arith)
+skipped_no_quantifier zero zs e = refl
+skipped_no_quantifier (suc n) zs e = absurd (omega arith)
 
 pub skipped-quantifiers : (n : ℕ) (zs : List ℤ) → (n ≡ 0 → ⊥) →
     mapped skipped (quantifiers_at n zs) ≡ then (meant quantifier_of zs) (λ _ rest. mapped skipped (quantifiers_at (n - 1) rest))

@@ -1,6 +1,6 @@
 -- The remainder: Theorems.antt proves the laws.
 use Rattle.poly.proofs.remainder_stands.Goals as goal
-use Rattle.poly.proofs.Theorems.{remainder-laws}
+use Rattle.poly.proofs.Theorems.{remainder_laws}
 
 pub returns : goal.returns
-returns g c = remainder-laws g.F.RealClosed.field
+returns g c = remainder_laws g.F.RealClosed.field

@@ -1,6 +1,6 @@
 -- Tables are right: Table.antt proves it.
 use Rattle.sign_table.proofs.table_right_stands.Goals as goal
-use Rattle.sign_table.proofs.Table.{table-right}
+use Rattle.sign_table.proofs.Table.{table_right}
 
 pub returns : goal.returns
-returns g c = table-right g.F.RealClosed.field
+returns g c = table_right g.F.RealClosed.field

@@ -1,6 +1,6 @@
 -- The first variable: Laws.antt proves the laws.
 use Rattle.terms.proofs.leading_stands.Goals as goal
-use Rattle.terms.proofs.Laws.{flat-leading-laws}
+use Rattle.terms.proofs.Laws.{flat_leading_laws}
 
 pub returns : goal.returns
-returns c = flat-leading-laws
+returns c = flat_leading_laws

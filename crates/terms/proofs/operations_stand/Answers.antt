@@ -1,6 +1,6 @@
 -- Sums, products and equality: Laws.antt proves the laws.
 use Rattle.terms.proofs.operations_stand.Goals as goal
-use Rattle.terms.proofs.Laws.{flat-operation-laws}
+use Rattle.terms.proofs.Laws.{flat_operation_laws}
 
 pub returns : goal.returns
-returns c = flat-operation-laws
+returns c = flat_operation_laws

@@ -1,6 +1,6 @@
 -- Sizes: Laws.antt proves the laws.
 use Rattle.terms.proofs.sizes_stand.Goals as goal
-use Rattle.terms.proofs.Laws.{size-laws}
+use Rattle.terms.proofs.Laws.{size_laws}
 
 pub returns : goal.returns
-returns c = size-laws
+returns c = size_laws

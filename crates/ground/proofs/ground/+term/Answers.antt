@@ -3,61 +3,61 @@ use Rattle.std.proofs.Common.{ap, ◌∙◌, w64, SFits, rules}
 use Rattle.std.proofs.lemmas.Int.{to_z-of_z}
 use Rattle.ground.specs.Ground.{modest}
 use Rattle.words.specs.Reading.{Read}
-use Rattle.words.proofs.Words.{term-none, term-open, term-of-kind, refused-outcome}
-use Rattle.ground.proofs.Values.{number-number, sum_number, product-number, no-ground-term}
+use Rattle.words.proofs.Words.{term_none, term_open, term_of_kind, refused_outcome}
+use Rattle.ground.proofs.Values.{number-number, sum_number, product-number, no_ground_term}
 use Rattle.ground.proofs.ground.+term.Goals as goal
 
 pub returns-then-depth-eq0 : goal.returns-then-depth-eq0
-returns-then-depth-eq0 t c = rw (term-none _ _ _ c.if-depth-eq0.true)
+returns-then-depth-eq0 t c = rw (term_none _ _ _ c.if-depth-eq0.true)
 
 pub returns-in_err-kind : goal.returns-in_err-kind
 returns-in_err-kind t c =
-    rw (term-open c.args.depth 0 c.args.reader.now.rest.now c.if-depth-eq0.false, ← c.in_err-kind.ensures)
-    (refused-outcome c.from_residual.result _ c.from_residual.ensures.0)
+    rw (term_open c.args.depth 0 c.args.reader.now.rest.now c.if-depth-eq0.false, ← c.in_err-kind.ensures)
+    (refused_outcome c.from_residual.result _ c.from_residual.ensures.0)
 
 pub returns-in_err-number-in-Number : goal.returns-in_err-number-in-Number
 returns-in_err-number-in-Number t c =
-    let opened = term-of-kind c.args.depth 0 c.args.reader.now.rest.now _ _ c.if-depth-eq0.false c.in_ok-kind.ensures in
-    rw (opened, c.in-Number.is, number-number, ← c.in_err-number-in-Number.ensures) (refused-outcome c.from_residual-in_err-number-in-Number.result _ c.from_residual-in_err-number-in-Number.ensures.0)
+    let opened = term_of_kind c.args.depth 0 c.args.reader.now.rest.now _ _ c.if-depth-eq0.false c.in_ok-kind.ensures in
+    rw (opened, c.in-Number.is, number-number, ← c.in_err-number-in-Number.ensures) (refused_outcome c.from_residual-in_err-number-in-Number.result _ c.from_residual-in_err-number-in-Number.ensures.0)
 
 pub returns-in_ok-number-in-Number : goal.returns-in_ok-number-in-Number
 returns-in_ok-number-in-Number t c =
-    let opened = term-of-kind c.args.depth 0 c.args.reader.now.rest.now _ _ c.if-depth-eq0.false c.in_ok-kind.ensures in
+    let opened = term_of_kind c.args.depth 0 c.args.reader.now.rest.now _ _ c.if-depth-eq0.false c.in_ok-kind.ensures in
     rw (opened, c.in-Number.is, number-number, ← c.in_ok-number-in-Number.ensures)
     (let f : SFits w64 c.in_ok-number-in-Number.field-0 = search rules in
     ap (λ v. Read v c.number.new.self.rest.now) (c.modest_number.ensures ∙ ap modest (to_z-of_z w64 c.in_ok-number-in-Number.field-0 f)))
 
 pub returns-in_err-first-in-Sum : goal.returns-in_err-first-in-Sum
 returns-in_err-first-in-Sum t c =
-    let opened = term-of-kind c.args.depth 0 c.args.reader.now.rest.now _ _ c.if-depth-eq0.false c.in_ok-kind.ensures in
-    rw (opened, c.in-Sum.is, sum_number, ← c.in_err-first-in-Sum.ensures) (refused-outcome c.from_residual-in_err-first-in-Sum.result _ c.from_residual-in_err-first-in-Sum.ensures.0)
+    let opened = term_of_kind c.args.depth 0 c.args.reader.now.rest.now _ _ c.if-depth-eq0.false c.in_ok-kind.ensures in
+    rw (opened, c.in-Sum.is, sum_number, ← c.in_err-first-in-Sum.ensures) (refused_outcome c.from_residual-in_err-first-in-Sum.result _ c.from_residual-in_err-first-in-Sum.ensures.0)
 
 pub returns-in_err-second-in-Sum : goal.returns-in_err-second-in-Sum
 returns-in_err-second-in-Sum t c =
-    let opened = term-of-kind c.args.depth 0 c.args.reader.now.rest.now _ _ c.if-depth-eq0.false c.in_ok-kind.ensures in
-    rw (opened, c.in-Sum.is, sum_number, ← c.in_ok-first-in-Sum.ensures, ← c.in_err-second-in-Sum.ensures) (refused-outcome c.from_residual-in_err-second-in-Sum.result _ c.from_residual-in_err-second-in-Sum.ensures.0)
+    let opened = term_of_kind c.args.depth 0 c.args.reader.now.rest.now _ _ c.if-depth-eq0.false c.in_ok-kind.ensures in
+    rw (opened, c.in-Sum.is, sum_number, ← c.in_ok-first-in-Sum.ensures, ← c.in_err-second-in-Sum.ensures) (refused_outcome c.from_residual-in_err-second-in-Sum.result _ c.from_residual-in_err-second-in-Sum.ensures.0)
 
 pub returns-in_ok-second-in-Sum : goal.returns-in_ok-second-in-Sum
 returns-in_ok-second-in-Sum t c =
-    let opened = term-of-kind c.args.depth 0 c.args.reader.now.rest.now _ _ c.if-depth-eq0.false c.in_ok-kind.ensures in
+    let opened = term_of_kind c.args.depth 0 c.args.reader.now.rest.now _ _ c.if-depth-eq0.false c.in_ok-kind.ensures in
     rw (opened, c.in-Sum.is, sum_number, ← c.in_ok-first-in-Sum.ensures, ← c.in_ok-second-in-Sum.ensures) (ap (λ v. Read v c.term-in-Sum.new.reader.rest.now) c.sum.ensures)
 
 pub returns-in_err-first-in-Product : goal.returns-in_err-first-in-Product
 returns-in_err-first-in-Product t c =
-    let opened = term-of-kind c.args.depth 0 c.args.reader.now.rest.now _ _ c.if-depth-eq0.false c.in_ok-kind.ensures in
-    rw (opened, c.in-Product.is, product-number, ← c.in_err-first-in-Product.ensures) (refused-outcome c.from_residual-in_err-first-in-Product.result _ c.from_residual-in_err-first-in-Product.ensures.0)
+    let opened = term_of_kind c.args.depth 0 c.args.reader.now.rest.now _ _ c.if-depth-eq0.false c.in_ok-kind.ensures in
+    rw (opened, c.in-Product.is, product-number, ← c.in_err-first-in-Product.ensures) (refused_outcome c.from_residual-in_err-first-in-Product.result _ c.from_residual-in_err-first-in-Product.ensures.0)
 
 pub returns-in_err-second-in-Product : goal.returns-in_err-second-in-Product
 returns-in_err-second-in-Product t c =
-    let opened = term-of-kind c.args.depth 0 c.args.reader.now.rest.now _ _ c.if-depth-eq0.false c.in_ok-kind.ensures in
-    rw (opened, c.in-Product.is, product-number, ← c.in_ok-first-in-Product.ensures, ← c.in_err-second-in-Product.ensures) (refused-outcome c.from_residual-in_err-second-in-Product.result _ c.from_residual-in_err-second-in-Product.ensures.0)
+    let opened = term_of_kind c.args.depth 0 c.args.reader.now.rest.now _ _ c.if-depth-eq0.false c.in_ok-kind.ensures in
+    rw (opened, c.in-Product.is, product-number, ← c.in_ok-first-in-Product.ensures, ← c.in_err-second-in-Product.ensures) (refused_outcome c.from_residual-in_err-second-in-Product.result _ c.from_residual-in_err-second-in-Product.ensures.0)
 
 pub returns-in_ok-second-in-Product : goal.returns-in_ok-second-in-Product
 returns-in_ok-second-in-Product t c =
-    let opened = term-of-kind c.args.depth 0 c.args.reader.now.rest.now _ _ c.if-depth-eq0.false c.in_ok-kind.ensures in
+    let opened = term_of_kind c.args.depth 0 c.args.reader.now.rest.now _ _ c.if-depth-eq0.false c.in_ok-kind.ensures in
     rw (opened, c.in-Product.is, product-number, ← c.in_ok-first-in-Product.ensures, ← c.in_ok-second-in-Product.ensures) (ap (λ v. Read v c.term-in-Product-2.new.reader.rest.now) c.product.ensures)
 
 pub returns-in-Variable : goal.returns-in-Variable
 returns-in-Variable t c =
-    let opened = term-of-kind c.args.depth 0 c.args.reader.now.rest.now _ _ c.if-depth-eq0.false c.in_ok-kind.ensures in
-    rw (opened, no-ground-term _ _ _ c.in-Variable.is)
+    let opened = term_of_kind c.args.depth 0 c.args.reader.now.rest.now _ _ c.if-depth-eq0.false c.in_ok-kind.ensures in
+    rw (opened, no_ground_term _ _ _ c.in-Variable.is)

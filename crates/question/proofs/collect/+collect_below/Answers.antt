@@ -5,12 +5,12 @@ use Rattle.arena.specs.declared.arena.Full.{Full}
 use Rattle.question.specs.Nodes.{node_at}
 use Rattle.question.specs.Collect.{Notes, Collects}
 use Rattle.question.proofs.Nodes.{length-below}
-use Rattle.question.proofs.Collected.{collects-none, collects-beyond, refused-above, refused-at, refused-below, collects-question}
+use Rattle.question.proofs.Collected.{collects_none, collects_beyond, refused_above, refused_at, refused_below, collects_question}
 use Rattle.question.proofs.collect.+collect_below.Goals as goal
 
 pub returns-in_default : goal.returns-in_default
 returns-in_default t c = record {
-  stands = collects-none _ _ _ _ (length c.args.found.now.cells.now) c.in_default.not-Question;
+  stands = collects_none _ _ _ _ (length c.args.found.now.cells.now) c.in_default.not-Question;
   long = refl;
   lent = refl;
 }
@@ -24,7 +24,7 @@ returns-then-i-min t c =
     let few : length (take top cells) ≤ 5 * c.args.questions.now.len = omega arith in
     let beyond : min c.args.limit c.args.questions.now.len ≤ c.in-Question.i = omega (arith, c.if-i-min.true, c.min.ensures, c.len.ensures) in
     record {
-      stands = collects-beyond (take top cells) c.args.limit c.args.tree _ (length c.args.found.now.cells.now) c.in-Question.i c.args.questions.now.len c.in-Question.is few beyond;
+      stands = collects_beyond (take top cells) c.args.limit c.args.tree _ (length c.args.found.now.cells.now) c.in-Question.i c.args.questions.now.len c.in-Question.is few beyond;
       long = refl;
       lent = refl;
     }
@@ -45,7 +45,7 @@ returns-in_err-collect_below t c =
     subst (λ q. Collects cells i q.above before (Err x) later room) read c.in_err-collect_below.ensures.stands in
     let p = err_from_is_err_and c.from_residual.result c.from_residual.ensures.1 in
     record {
-      stands = subst (λ u. Collects cells limit c.args.tree before u later room) (sym p.1) (refused-above cells limit c.args.tree before room i is later p.0 stopped later);
+      stands = subst (λ u. Collects cells limit c.args.tree before u later room) (sym p.1) (refused_above cells limit c.args.tree before room i is later p.0 stopped later);
       long = c.in_err-collect_below.ensures.long;
       lent = search rules;
     }
@@ -69,7 +69,7 @@ returns-in_err-collect_below-2 t c =
     subst₂ (λ q n. Collects cells i q.at above (Err x) later n) read long-one c.in_err-collect_below-2.ensures.stands in
     let p = err_from_is_err_and c.from_residual-in_err-collect_below-2.result c.from_residual-in_err-collect_below-2.ensures.1 in
     record {
-      stands = subst (λ u. Collects cells limit c.args.tree before u later room) (sym p.1) (refused-at cells limit c.args.tree before room i is above one later p.0 stopped later);
+      stands = subst (λ u. Collects cells limit c.args.tree before u later room) (sym p.1) (refused_at cells limit c.args.tree before room i is above one later p.0 stopped later);
       long = c.in_err-collect_below-2.ensures.long ∙ long-one;
       lent = search rules;
     }
@@ -97,7 +97,7 @@ returns-in_err-collect_below-3 t c =
     subst₂ (λ q n. Collects cells i q.below at (Err x) later n) read long-two c.in_err-collect_below-3.ensures.stands in
     let p = err_from_is_err_and c.from_residual-in_err-collect_below-3.result c.from_residual-in_err-collect_below-3.ensures.1 in
     record {
-      stands = subst (λ u. Collects cells limit c.args.tree before u later room) (sym p.1) (refused-below cells limit c.args.tree before room i is above one at two later p.0 stopped later);
+      stands = subst (λ u. Collects cells limit c.args.tree before u later room) (sym p.1) (refused_below cells limit c.args.tree before room i is above one at two later p.0 stopped later);
       long = c.in_err-collect_below-3.ensures.long ∙ long-two;
       lent = search rules;
     }
@@ -127,7 +127,7 @@ returns t c =
     let noted : Notes c.note.result (node_at cells i).polynomial below room later =
     subst₂ (λ q n. Notes c.note.result q.polynomial below n later) read long-three c.note.ensures.stands in
     record {
-      stands = collects-question cells limit c.args.tree before room i is above one at two below three c.note.result later noted;
+      stands = collects_question cells limit c.args.tree before room i is above one at two below three c.note.result later noted;
       long = c.note.ensures.long ∙ long-three;
       lent = search rules;
     }

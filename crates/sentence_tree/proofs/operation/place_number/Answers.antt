@@ -3,7 +3,7 @@ use Rattle.std.proofs.lemmas.Int.{to_z-of_z}
 use Rattle.poly.specs.Arithmetic.{constant}
 use Rattle.terms.specs.Monomial.{constant_terms}
 use Rattle.storage.specs.Denoting.{Checks}
-use Rattle.storage.proofs.Denoting.{denoting-laws}
+use Rattle.storage.proofs.Denoting.{denoting_laws}
 use Rattle.sentence_tree.proofs.operation.place_number.Goals as goal
 
 pub returns : goal.returns
@@ -13,6 +13,6 @@ returns c =
     let p = constant n z in
     let fits : SFits w64 z = search rules in
     record {
-      placed = c.place.ensures.placed n p (subst (λ ts. Checks n ts p) (sym (c.number.ensures.value ∙ ap constant_terms (to_z-of_z w64 z fits))) (denoting-laws.number-checks n z c.requires.few));
+      placed = c.place.ensures.placed n p (subst (λ ts. Checks n ts p) (sym (c.number.ensures.value ∙ ap constant_terms (to_z-of_z w64 z fits))) (denoting_laws.number_checks n z c.requires.few));
       lent = c.place.ensures.lent;
     }

@@ -5,10 +5,10 @@ use Rattle.poly.specs.Arithmetic.{product}
 use Rattle.terms.specs.Operations.{mul_terms}
 use Rattle.wide.specs.Written.{written}
 use Rattle.storage.specs.Spans.{terms_at}
-use Rattle.storage.proofs.Denoting.{denoting-laws}
+use Rattle.storage.proofs.Denoting.{denoting_laws}
 use Rattle.sentence_tree.specs.Placed.{Places}
 use Rattle.sentence_tree.specs.Operands.{span, Joins}
-use Rattle.sentence_tree.proofs.Joined.{joins-both, joins-none}
+use Rattle.sentence_tree.proofs.Joined.{joins_both, joins_none}
 use Rattle.sentence_tree.proofs.operation.place_product.Goals as goal
 
 pub returns-in_default : goal.returns-in_default
@@ -17,7 +17,7 @@ returns-in_default c =
     let fits : c.args.operands.mark ≤ length cells = omega (arith, c.requires.ready.room) in
     record {
       placed = subst₂ (λ t cs. Joins product c.args.operands None c.args.arena.now.top cells t cs) (sym c.release.ensures.top) (sym c.release.ensures.cells)
-          (joins-none mul_terms product denoting-laws.product-checks c.args.operands c.args.arena.now.top cells fits (inl c.in_default.is));
+          (joins_none mul_terms product denoting_laws.product_checks c.args.operands c.args.arena.now.top cells fits (inl c.in_default.is));
       lent = search rules;
     }
 
@@ -27,7 +27,7 @@ returns-in_default-right c =
     let fits : c.args.operands.mark ≤ length cells = omega (arith, c.requires.ready.room) in
     record {
       placed = subst₂ (λ t cs. Joins product c.args.operands None c.args.arena.now.top cells t cs) (sym c.release-in_default-right.ensures.top) (sym c.release-in_default-right.ensures.cells)
-          (joins-none mul_terms product denoting-laws.product-checks c.args.operands c.args.arena.now.top cells fits (inr c.in_default-right.is));
+          (joins_none mul_terms product denoting_laws.product_checks c.args.operands c.args.arena.now.top cells fits (inr c.in_default-right.is));
       lent = search rules;
     }
 
@@ -43,6 +43,6 @@ returns c =
     let places : Places (mul_terms (terms_at (span o.mark l) cells) (terms_at (span (o.mark + l) r) cells)) c.place.result o.mark cells c.place.new.arena.top c.place.new.arena.cells.now =
     subst₃ (λ ts t cs. Places ts c.place.result t cs c.place.new.arena.top c.place.new.arena.cells.now) computed c.release-2.ensures.top c.release-2.ensures.cells c.place.ensures.placed in
     record {
-      placed = joins-both mul_terms product denoting-laws.product-checks o c.args.arena.now.top cells fits l r c.in-Some.is c.in-Some-right.is c.place.result c.place.new.arena.top c.place.new.arena.cells.now places;
+      placed = joins_both mul_terms product denoting_laws.product_checks o c.args.arena.now.top cells fits l r c.in-Some.is c.in-Some-right.is c.place.result c.place.new.arena.top c.place.new.arena.cells.now places;
       lent = search rules;
     }

@@ -2,11 +2,11 @@
 use Rattle.std.proofs.Common.{◌≡◌, length, get_or, pos, subst, arith, w64, SFits, rules}
 use Rattle.std.proofs.lemmas.Int.{to_z-of_z}
 use Rattle.stacks.specs.Written.{PutSome}
-use Rattle.stacks.proofs.Puts.{put-none, put_next}
+use Rattle.stacks.proofs.Puts.{put_none, put_next}
 use Rattle.stacks.proofs.cells.put.Goals as goal
 
 pub loop-i-init : goal.loop-i-init
-loop-i-init c = put-none c.args.at c.args.values.now c.args.cells.now
+loop-i-init c = put_none c.args.at c.args.values.now c.args.cells.now
 
 pub loop-i-preserved : goal.loop-i-preserved
 loop-i-preserved c =

@@ -1,5 +1,5 @@
 use Rattle.std.proofs.Common.{◌<◌, ◌≤◌, ◌≢◌, length, pos, ◌∙◌, arith, get_or-set_other, get_or-set_same, below_more}
-use Rattle.stacks.proofs.Holding.{zeros-hold}
+use Rattle.stacks.proofs.Holding.{zeros_hold}
 use Rattle.stacks.proofs.slots.clear.Goals as goal
 
 pub loop-cell-preserved : goal.loop-cell-preserved
@@ -12,4 +12,4 @@ loop-cell-preserved c =
 pub returns : goal.returns
 returns c =
     let l : length c.loop-cell.slots ≤ c.loop-cell.cell-index = omega arith in
-    zeros-hold c.loop-cell.slots c.loop-cell.cell-index c.loop-cell.invariant l
+    zeros_hold c.loop-cell.slots c.loop-cell.cell-index c.loop-cell.invariant l

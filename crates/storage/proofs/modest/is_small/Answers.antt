@@ -3,7 +3,7 @@ use Rattle.std.proofs.Common.{◌+◌, ◌^◌, ◌<◌, ◌&&◌, ltb, length, 
 use Rattle.poly.specs.Modest.{magnitude}
 use Rattle.terms.specs.ModestTerms.{small_key, small_terms}
 use Rattle.wide.specs.Written.{written}
-use Rattle.storage.proofs.ModestSteps.{small-place, small-end}
+use Rattle.storage.proofs.ModestSteps.{small-place, small_end}
 use Rattle.storage.proofs.modest.is_small.Goals as goal
 
 pub returns-then-not-is_small_term : goal.returns-then-not-is_small_term
@@ -21,4 +21,4 @@ loop-i-preserved c =
     sym (small-place 4 ts c.loop-i.i i) ∙ c.loop-i.invariant
 
 pub returns : goal.returns
-returns c = sym (small-end 4 (written c.args.list.now) c.loop-i.i (omega (arith, c.loop-i-test.false, c.len-i-end.ensures))) ∙ c.loop-i.invariant
+returns c = sym (small_end 4 (written c.args.list.now) c.loop-i.i (omega (arith, c.loop-i-test.false, c.len-i-end.ensures))) ∙ c.loop-i.invariant

@@ -3,7 +3,7 @@ use Rattle.std.proofs.Common.{◌+◌, ◌/◌, ◌%◌, ◌<◌, length, drop, 
 use Rattle.terms.specs.ModestTerms.{last_digits}
 use Rattle.wide.specs.Written.{written}
 use Rattle.wide.proofs.Written.{written-most}
-use Rattle.storage.proofs.ModestSteps.{digits_last, digits-on, digits-over}
+use Rattle.storage.proofs.ModestSteps.{digits_last, digits_on, digits-over}
 use Rattle.storage.proofs.modest.numbers_at.Goals as goal
 
 pub overflow_add-i : goal.overflow_add-i
@@ -23,7 +23,7 @@ returns-then-term-key c =
     let l : c.args.i + 1 < length (written c.args.list.now) = omega (arith, c.if-i-len.false, c.len.ensures, c.requires) in
     record {
       value =
-          digits-on (written c.args.list.now) c.args.i l
+          digits_on (written c.args.list.now) c.args.i l
           (sym (ap (λ m. m.key / 32) c.term.ensures) ∙ c.if-term-key.true ∙ ap (λ m. m.key / 32) c.term-key.ensures);
       bound = omega arith;
     }

@@ -2,9 +2,9 @@
 use Rattle.std.proofs.Common.{◌≡◌, ◌-◌, ◌^◌, ◌<◌, T, length, take, sym, ap, ◌∙◌, subst, arith, length-take, take_all}
 use Rattle.poly.specs.Modest.{magnitude}
 use Rattle.terms.specs.Cells.{cell_of, cells_of}
-use Rattle.terms.proofs.Bounds.{keys-rising}
-use Rattle.terms.proofs.Modests.{modest-sizes}
-use Rattle.packed.proofs.Places.{key-at, size-at, from_bits}
+use Rattle.terms.proofs.Bounds.{keys_rising}
+use Rattle.terms.proofs.Modests.{modest_sizes}
+use Rattle.packed.proofs.Places.{key_at, size_at, from_bits}
 use Rattle.arena.specs.Growth.{Grown}
 use Rattle.arena.proofs.Stores.{grown-next}
 use Rattle.wide.specs.Written.{written}
@@ -16,8 +16,8 @@ pub cell-requires : goal.cell-requires
 cell-requires c =
     let ts = written c.args.list.now in
     let i : c.loop-i.i < length ts = omega (arith, c.loop-i-test.true, c.len-i-end.ensures) in
-    let k = key-at (2 ^ 20) ts c.loop-i.i (keys-rising 0 (2 ^ 20) ts c.requires.rising) i in
-    let s = size-at (2 ^ 27 - 1) ts c.loop-i.i (modest-sizes 4 ts (subst T (sym c.loop-i.invariant.2) tt)) i in
+    let k = key_at (2 ^ 20) ts c.loop-i.i (keys_rising 0 (2 ^ 20) ts c.requires.rising) i in
+    let s = size_at (2 ^ 27 - 1) ts c.loop-i.i (modest_sizes 4 ts (subst T (sym c.loop-i.invariant.2) tt)) i in
     (omega (arith, ap (λ m. m.key) c.term.ensures, k), omega (arith, ap (λ m. magnitude m.times) c.term.ensures, s))
 
 pub put-requires : goal.put-requires

@@ -4,7 +4,7 @@ use borrow.Author.Tests.{true-leb}
 use Rattle.terms.specs.LeadingTerms.{length_terms}
 use Rattle.storage.specs.Spans.{Holds, terms_at}
 use Rattle.storage.specs.Dividing.{Dividing, Divided, Refused}
-use Rattle.storage.proofs.Dividing.{begun, holds_kept, still, step-still, fails-still, ended-still, out-of-fuel, refused-result}
+use Rattle.storage.proofs.Dividing.{begun, holds_kept, still, step_still, fails_still, ended_still, out_of_fuel, refused_result}
 use Rattle.storage.proofs.remainder.divide.Goals as goal
 
 pub loop-fuel-init : goal.loop-fuel-init
@@ -45,12 +45,12 @@ returns-in_err-count c =
     let ps = terms_at c.args.divisor cells in
     let ss = terms_at c.args.dividend cells in
     let low = subst (λ m. Holds c.args.divisor m cells) (sym c.top-mark.ensures) c.requires.divisor.0 in
-    let f = fails-still c.args.others c.args.divisor ss c.top-mark.result cells (omega (arith, c.requires.few)) low c.loop-fuel.fuel c.loop-fuel.quotient.steps c.loop-fuel.quotient.rest
+    let f = fails_still c.args.others c.args.divisor ss c.top-mark.result cells (omega (arith, c.requires.few)) low c.loop-fuel.fuel c.loop-fuel.quotient.steps c.loop-fuel.quotient.rest
     c.loop-fuel.arena.top c.loop-fuel.arena.cells.now c.loop-fuel.invariant.0 c.divide_once.new.arena.top c.divide_once.new.arena.cells.now c.loop-fuel-test.true c.if-has_step.ensures
     c.in_err-count.ensures.stored.0 c.in_err-count.ensures.stored.1 in
     record {
       value =
-          refused-result c.from_residual.result c.args.others ps ss c.args.arena.now.top cells _ _ c.from_residual.ensures.0
+          refused_result c.from_residual.result c.args.others ps ss c.args.arena.now.top cells _ _ c.from_residual.ensures.0
           (subst (λ m. Refused c.args.others ps ss m cells c.divide_once.new.arena.top c.divide_once.new.arena.cells.now) c.top-mark.ensures f);
       lent = c.in_err-count.ensures.lent ∙ c.loop-fuel.invariant.1;
     }
@@ -59,7 +59,7 @@ pub loop-fuel-preserved : goal.loop-fuel-preserved
 loop-fuel-preserved c =
     let cells = c.args.arena.now.cells.now in
     let low = subst (λ m. Holds c.args.divisor m cells) (sym c.top-mark.ensures) c.requires.divisor.0 in (
-      step-still c.args.others c.args.divisor (terms_at c.args.dividend cells) c.top-mark.result cells (omega (arith, c.requires.few)) low c.loop-fuel.fuel c.loop-fuel.quotient.steps c.loop-fuel.quotient.rest
+      step_still c.args.others c.args.divisor (terms_at c.args.dividend cells) c.top-mark.result cells (omega (arith, c.requires.few)) low c.loop-fuel.fuel c.loop-fuel.quotient.steps c.loop-fuel.quotient.rest
           c.loop-fuel.arena.top c.loop-fuel.arena.cells.now c.loop-fuel.invariant.0 c.in_ok-count.count c.divide_once.new.arena.top c.divide_once.new.arena.cells.now c.loop-fuel-test.true
           c.if-has_step.ensures (omega (arith, c.loop-fuel.invariant.0.untouched.long, c.top-mark.ensures, c.requires.room)) c.in_ok-count.ensures.stored,
       c.in_ok-count.ensures.lent ∙ c.loop-fuel.invariant.1,
@@ -69,7 +69,7 @@ pub returns-else-has_step : goal.returns-else-has_step
 returns-else-has_step c =
     let cells = c.args.arena.now.cells.now in
     let low = subst (λ m. Holds c.args.divisor m cells) (sym c.top-mark.ensures) c.requires.divisor.0 in
-    let d = ended-still c.args.others c.args.divisor (terms_at c.args.dividend cells) c.top-mark.result cells (omega (arith, c.requires.few)) low c.loop-fuel.fuel c.loop-fuel.quotient.steps
+    let d = ended_still c.args.others c.args.divisor (terms_at c.args.dividend cells) c.top-mark.result cells (omega (arith, c.requires.few)) low c.loop-fuel.fuel c.loop-fuel.quotient.steps
     c.loop-fuel.quotient.rest c.loop-fuel.arena.top c.loop-fuel.arena.cells.now c.loop-fuel.invariant.0 c.if-has_step.ensures in
     record {
       value =
@@ -81,7 +81,7 @@ returns-else-has_step c =
 pub returns-after-loop-fuel : goal.returns-after-loop-fuel
 returns-after-loop-fuel c =
     let cells = c.args.arena.now.cells.now in
-    let d = out-of-fuel c.args.others (terms_at c.args.divisor cells) (terms_at c.args.dividend cells) c.top-mark.result cells (omega (arith, c.requires.few)) c.loop-fuel.fuel c.loop-fuel.quotient.steps
+    let d = out_of_fuel c.args.others (terms_at c.args.divisor cells) (terms_at c.args.dividend cells) c.top-mark.result cells (omega (arith, c.requires.few)) c.loop-fuel.fuel c.loop-fuel.quotient.steps
     c.loop-fuel.quotient.rest c.loop-fuel.arena.top c.loop-fuel.arena.cells.now c.loop-fuel.invariant.0 c.loop-fuel-test.false in
     record {
       value =

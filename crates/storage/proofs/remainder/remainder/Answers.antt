@@ -6,13 +6,13 @@ use Rattle.terms.specs.Operations.{neg_terms}
 use Rattle.storage.specs.Spans.{terms_at}
 use Rattle.storage.specs.Storing.{Packed}
 use Rattle.storage.specs.Dividing.{Remainder}
-use Rattle.storage.proofs.Dividing.{no-remainder, refused-remainder, plain-remainder, exchanged-remainder, exchanged-steps, modest-negated, span}
+use Rattle.storage.proofs.Dividing.{no_remainder, refused_remainder, plain-remainder, exchanged-remainder, exchanged-steps, modest-negated, span}
 use Rattle.storage.proofs.remainder.remainder.Goals as goal
 
 pub returns-in_err-quotient : goal.returns-in_err-quotient
 returns-in_err-quotient c =
     record {
-      value = no-remainder c.from_residual.result c.args.others c.args.leading _ _ _ _ _ _ c.from_residual.ensures.0 (refused-remainder c.args.others c.args.leading _ _ _ _ _ _ c.in_err-quotient.ensures.value);
+      value = no_remainder c.from_residual.result c.args.others c.args.leading _ _ _ _ _ _ c.from_residual.ensures.0 (refused_remainder c.args.others c.args.leading _ _ _ _ _ _ c.in_err-quotient.ensures.value);
       lent = c.in_err-quotient.ensures.lent;
     }
 

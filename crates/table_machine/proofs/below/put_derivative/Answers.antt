@@ -4,11 +4,11 @@ use Rattle.terms.specs.Cells.{cells_of}
 use Rattle.wide.specs.Written.{written}
 use Rattle.stacks.specs.Slots.{slot_in}
 use Rattle.stacks.proofs.Holding.{slot_laws}
-use Rattle.table_machine.proofs.Deriving.{derived, not-derived, pushed-part, below-kept, length-cells}
+use Rattle.table_machine.proofs.Deriving.{derived, not_derived, pushed-part, below-kept, length-cells}
 use Rattle.table_machine.proofs.below.put_derivative.Goals as goal
 
 pub view_at-requires : goal.view_at-requires
-view_at-requires c = (slot_laws.front-holds c.args.others (slot_in c.args.slots.now c.args.slot) c.args.count (c.requires.hold c.args.slot)).stored
+view_at-requires c = (slot_laws.front_holds c.args.others (slot_in c.args.slots.now c.args.slot) c.args.count (c.requires.hold c.args.slot)).stored
 
 pub part-requires : goal.part-requires
 part-requires c =
@@ -53,6 +53,6 @@ returns-in-Err c =
     let ts = written c.derivative.new.self.front in
     let n = c.args.others in
     record {
-      derives = (not-derived n c.args.slots.now c.args.slot c.args.count ts c.requires.few c.requires.hold (c.derivative.ensures.value ∙ ap (derivative_terms n) c.view_at.ensures) p.0, refl);
-      arena = (p.1.same-top, ap (λ k. take k c.pack.new.arena.cells.now) p.1.same-top ∙ ap (take c.args.arena.now.top) p.1.same-cells);
+      derives = (not_derived n c.args.slots.now c.args.slot c.args.count ts c.requires.few c.requires.hold (c.derivative.ensures.value ∙ ap (derivative_terms n) c.view_at.ensures) p.0, refl);
+      arena = (p.1.same_top, ap (λ k. take k c.pack.new.arena.cells.now) p.1.same_top ∙ ap (take c.args.arena.now.top) p.1.same_cells);
     }

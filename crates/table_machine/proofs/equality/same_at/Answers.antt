@@ -5,7 +5,7 @@ use Rattle.packed.specs.Terms.{term_at}
 use Rattle.packed.specs.StretchTerms.{stretch_terms}
 use Rattle.packed.specs.Signed.{same_monomial, signed_number}
 use Rattle.packed.proofs.Places.{from_bits}
-use Rattle.packed.proofs.Signed.{signed-at}
+use Rattle.packed.proofs.Signed.{signed_at}
 use Rattle.table_machine.proofs.equality.same_at.Goals as goal
 
 pub returns-then-key : goal.returns-then-key
@@ -15,7 +15,7 @@ returns-then-key c =
     let y = from_bits c.coefficient-then-key.result c.coefficient-then-key.type_inv ∙ c.coefficient-then-key.ensures.value in
     c.equal.ensures ∙ ap₂ (λ u v. is_zero_number (u +ℤ neg_ℤ v)) x y ∙
     ap (λ t. t && is_zero_number (signed_number c.args.negated (term_at (stretch_terms c.args.left) c.args.i).times +ℤ neg_ℤ (term_at (stretch_terms c.args.right) c.args.i).times)) (sym keys) ∙
-    ap (λ m. same_monomial m (term_at (stretch_terms c.args.right) c.args.i)) (sym (signed-at c.args.negated (stretch_terms c.args.left) c.args.i c.requires.left))
+    ap (λ m. same_monomial m (term_at (stretch_terms c.args.right) c.args.i)) (sym (signed_at c.args.negated (stretch_terms c.args.left) c.args.i c.requires.left))
 
 pub returns-else-key : goal.returns-else-key
 returns-else-key c =
@@ -23,4 +23,4 @@ returns-else-key c =
     ne_eqb _ _ (λ e. c.if-key.false (c.key.ensures.value ∙ e ∙ sym c.key-2.ensures.value)) in
     ne_eqb c.key.result c.key-2.result c.if-key.false ∙
     ap (λ t. t && is_zero_number (signed_number c.args.negated (term_at (stretch_terms c.args.left) c.args.i).times +ℤ neg_ℤ (term_at (stretch_terms c.args.right) c.args.i).times)) (sym keys) ∙
-    ap (λ m. same_monomial m (term_at (stretch_terms c.args.right) c.args.i)) (sym (signed-at c.args.negated (stretch_terms c.args.left) c.args.i c.requires.left))
+    ap (λ m. same_monomial m (term_at (stretch_terms c.args.right) c.args.i)) (sym (signed_at c.args.negated (stretch_terms c.args.left) c.args.i c.requires.left))

@@ -2,7 +2,7 @@ use Rattle.std.proofs.Common.{◌<◌, sym, ◌∙◌, arith}
 use Rattle.machine.specs.Stacks.{back}
 use Rattle.stacks.specs.Values.{fact_in}
 use Rattle.stacks.specs.Memories.{fact_from}
-use Rattle.table_machine.proofs.Telling.{known-number, known-zero, known_among}
+use Rattle.table_machine.proofs.Telling.{known-number, known_zero_lem, known_among}
 use Rattle.table_machine.proofs.facts.known_sign.Goals as goal
 
 pub returns-then-others-eq0 : goal.returns-then-others-eq0
@@ -14,7 +14,7 @@ pub returns-then-len-eq0 : goal.returns-then-len-eq0
 returns-then-len-eq0 c =
     let fs = back (λ i. fact_from c.args.others c.args.slots.now (fact_in c.args.facts.now i)) c.args.len in
     let l : 0 < c.args.others = omega arith in
-    known-zero c.args.others c.args.slots.now c.args.slot c.args.count fs _ c.requires.hold l c.leading_at-leading.ensures (sym c.len.ensures.value ∙ c.if-len-eq0.true)
+    known_zero_lem c.args.others c.args.slots.now c.args.slot c.args.count fs _ c.requires.hold l c.leading_at-leading.ensures (sym c.len.ensures.value ∙ c.if-len-eq0.true)
 
 pub returns : goal.returns
 returns c =

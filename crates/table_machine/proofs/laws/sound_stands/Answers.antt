@@ -1,5 +1,5 @@
-use Rattle.table_machine.proofs.Sounds.{sound-laws}
+use Rattle.table_machine.proofs.Sounds.{sound_laws}
 use Rattle.table_machine.proofs.laws.sound_stands.Goals as goal
 
 pub returns : goal.returns
-returns c = sound-laws
+returns c = sound_laws

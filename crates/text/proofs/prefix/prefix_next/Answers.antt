@@ -5,18 +5,18 @@ use Rattle.grammar.specs.Text.{quantifier_of, prefix_next}
 use Rattle.grammar.specs.Tokens.{new_name}
 use Rattle.grammar.proofs.Runs.{goes_on, stops}
 use Rattle.text.specs.Prefix.{prefix_of}
-use Rattle.text.proofs.Prefixes.{prefix-refused}
+use Rattle.text.proofs.Prefixes.{prefix_refused}
 use Rattle.text.proofs.prefix.prefix_next.Goals as goal
 
 pub returns-in_err-every : goal.returns-in_err-every
 unfolding prefix_next run
-returns-in_err-every c = prefix-refused _ _ c.from_residual.result _ _ (stops (Look quantifier_of) _ _ _ _ c.in_err-every.ensures) c.from_residual.ensures.1
+returns-in_err-every c = prefix_refused _ _ c.from_residual.result _ _ (stops (Look quantifier_of) _ _ _ _ c.in_err-every.ensures) c.from_residual.ensures.1
 
 pub returns-in_err-name : goal.returns-in_err-name
 unfolding prefix_next run
 returns-in_err-name c =
     let same : c.args.prefix.count ≡ c.args.prefix.count - 0 = omega arith in
-    prefix-refused _ _ c.from_residual-in_err-name.result _ _ (goes_on (Look quantifier_of) _ _ _ _ _ c.in_ok-every.ensures ∙ stops (new_name (prefix_of c.args.prefix).names) _ _ _ _ (ap (λ k. run (new_name (take k c.args.prefix.names)) c.args.text.now c.quantifier.new.at) same ∙ c.in_err-name.ensures)) c.from_residual-in_err-name.ensures.1
+    prefix_refused _ _ c.from_residual-in_err-name.result _ _ (goes_on (Look quantifier_of) _ _ _ _ _ c.in_ok-every.ensures ∙ stops (new_name (prefix_of c.args.prefix).names) _ _ _ _ (ap (λ k. run (new_name (take k c.args.prefix.names)) c.args.text.now c.quantifier.new.at) same ∙ c.in_err-name.ensures)) c.from_residual-in_err-name.ensures.1
 
 pub returns : goal.returns
 unfolding prefix_next run

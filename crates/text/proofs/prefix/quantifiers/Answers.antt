@@ -2,9 +2,9 @@
 use Rattle.std.proofs.Common.{◌≡◌, true, ◌||◌, eqb, get_or, sym, refl, ◌∙◌, arith}
 use Rattle.std.proofs.lemmas.Bool.{eq-eqb, ne_eqb, or_from, or_left, or_right}
 use Rattle.grammar.specs.Text.{prefix_next, begins_quantifier, prefix_for, quantifiers}
-use Rattle.grammar.proofs.Runs.{while-goes, while-stops, while-ended, while-over}
+use Rattle.grammar.proofs.Runs.{while_goes, while_stops, while-ended, while-over}
 use Rattle.text.specs.Prefix.{prefix_of}
-use Rattle.text.proofs.Prefixes.{prefixes-refused}
+use Rattle.text.proofs.Prefixes.{prefixes_refused}
 use Rattle.text.proofs.prefix.quantifiers.Goals as goal
 use Rattle.text.proofs.prefix.quantifiers.Goals.{else-c-ne101-via-then-c-ne101+else-c-ne115, else-c-ne101-via-else-c-ne101}
 
@@ -28,7 +28,7 @@ returns-in_err-prefix c =
       | else-c-ne101-via-then-c-ne101+else-c-ne115 v ↦ or_right _ _ (eq-eqb _ 115 (sym c.front-c.ensures ∙ v.if-c-ne115.false))
       | else-c-ne101-via-else-c-ne101 v ↦ or_left _ _ (eq-eqb _ 101 (sym c.front-c.ensures ∙ v.if-c-ne101.false))
     ] in
-    prefixes-refused _ c.from_residual.result _ _ (c.loop-turn.invariant.0 ∙ while-stops begins_quantifier prefix_next 4 c.loop-turn._turn (prefix_of c.loop-turn.prefix) c.args.text.now c.loop-turn.at _ c.loop-turn-test.true begins c.in_err-prefix.ensures) c.from_residual.ensures.1
+    prefixes_refused _ c.from_residual.result _ _ (c.loop-turn.invariant.0 ∙ while_stops begins_quantifier prefix_next 4 c.loop-turn._turn (prefix_of c.loop-turn.prefix) c.args.text.now c.loop-turn.at _ c.loop-turn-test.true begins c.in_err-prefix.ensures) c.from_residual.ensures.1
 
 pub loop-turn-preserved : goal.loop-turn-preserved
 unfolding prefix_for
@@ -39,7 +39,7 @@ loop-turn-preserved c =
       | else-c-ne101-via-else-c-ne101 v ↦ or_left _ _ (eq-eqb _ 101 (sym c.front-c.ensures ∙ v.if-c-ne101.false))
     ] in
     let n = c.in_ok-prefix.ensures in
-    (c.loop-turn.invariant.0 ∙ while-goes begins_quantifier prefix_next 4 c.loop-turn._turn (prefix_of c.loop-turn.prefix) c.args.text.now c.loop-turn.at _ _ c.loop-turn-test.true begins n.0, omega (arith, n.1, c.loop-turn.invariant.1))
+    (c.loop-turn.invariant.0 ∙ while_goes begins_quantifier prefix_next 4 c.loop-turn._turn (prefix_of c.loop-turn.prefix) c.args.text.now c.loop-turn.at _ _ c.loop-turn-test.true begins n.0, omega (arith, n.1, c.loop-turn.invariant.1))
 
 pub returns : goal.returns
 unfolding prefix_for

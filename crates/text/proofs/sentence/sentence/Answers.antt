@@ -7,24 +7,24 @@ use Rattle.grammar.specs.Reader.{run}
 use Rattle.grammar.specs.Text.{sentence}
 use Rattle.grammar.proofs.Runs.{goes_on, stops}
 use Rattle.text.specs.Prefix.{prefix_of}
-use Rattle.text.proofs.Sheets.{same-words}
-use Rattle.text.proofs.Steps.{refused-by, claims, no-claim}
+use Rattle.text.proofs.Sheets.{same_words}
+use Rattle.text.proofs.Steps.{refused_by, claims, no_claim}
 use Rattle.text.proofs.sentence.sentence.Goals as goal
 
 pub returns-in_err-prefix : goal.returns-in_err-prefix
 unfolding sentence
-returns-in_err-prefix c held = refused-by _ _ c.from_residual.result _ _ (goes_on _ _ _ _ _ _ c.blanks.ensures ∙ stops _ _ _ _ _ c.in_err-prefix.ensures) c.from_residual.ensures.1
+returns-in_err-prefix c held = refused_by _ _ c.from_residual.result _ _ (goes_on _ _ _ _ _ _ c.blanks.ensures ∙ stops _ _ _ _ _ c.in_err-prefix.ensures) c.from_residual.ensures.1
 
 pub returns-in_err-sign : goal.returns-in_err-sign
 unfolding sentence
-returns-in_err-sign c held = refused-by _ _ c.from_residual-in_err-sign.result _ _ (goes_on _ _ _ _ _ _ c.blanks.ensures ∙ goes_on _ _ _ _ _ _ c.in_ok-prefix.ensures.0 ∙ stops _ _ _ _ _ c.in_err-sign.ensures) c.from_residual-in_err-sign.ensures.1
+returns-in_err-sign c held = refused_by _ _ c.from_residual-in_err-sign.result _ _ (goes_on _ _ _ _ _ _ c.blanks.ensures ∙ goes_on _ _ _ _ _ _ c.in_ok-prefix.ensures.0 ∙ stops _ _ _ _ _ c.in_err-sign.ensures) c.from_residual-in_err-sign.ensures.1
 
 pub returns-in_err-piece : goal.returns-in_err-piece
 unfolding sentence
 returns-in_err-piece c held =
     let same : c.in_ok-prefix.prefix.count ≡ c.in_ok-prefix.prefix.count - 0 = omega arith in
     let said = c.announce.ensures held in
-    refused-by _ _ c.from_residual-in_err-piece.result _ _ (goes_on _ _ _ _ _ _ c.blanks.ensures ∙ goes_on _ _ _ _ _ _ c.in_ok-prefix.ensures.0 ∙ goes_on _ _ _ _ _ _ c.in_ok-sign.ensures ∙ stops (equivalence (prefix_of c.in_ok-prefix.prefix).names (nest (prefix_of c.in_ok-prefix.prefix).names 200)) _ _ _ _ (ap (λ k. run (equivalence (take k c.in_ok-prefix.prefix.names) (nest (take k c.in_ok-prefix.prefix.names) 200)) c.args.text.now c.sign.new.at) same ∙ c.in_err-piece.ensures (pos c.in_ok-prefix.prefix.count ∷ map quantifier_word (take c.in_ok-prefix.prefix.count c.in_ok-prefix.prefix.every)) said)) c.from_residual-in_err-piece.ensures.1
+    refused_by _ _ c.from_residual-in_err-piece.result _ _ (goes_on _ _ _ _ _ _ c.blanks.ensures ∙ goes_on _ _ _ _ _ _ c.in_ok-prefix.ensures.0 ∙ goes_on _ _ _ _ _ _ c.in_ok-sign.ensures ∙ stops (equivalence (prefix_of c.in_ok-prefix.prefix).names (nest (prefix_of c.in_ok-prefix.prefix).names 200)) _ _ _ _ (ap (λ k. run (equivalence (take k c.in_ok-prefix.prefix.names) (nest (take k c.in_ok-prefix.prefix.names) 200)) c.args.text.now c.sign.new.at) same ∙ c.in_err-piece.ensures (pos c.in_ok-prefix.prefix.count ∷ map quantifier_word (take c.in_ok-prefix.prefix.count c.in_ok-prefix.prefix.every)) said)) c.from_residual-in_err-piece.ensures.1
 
 pub returns-in_err-claimed : goal.returns-in_err-claimed
 unfolding sentence
@@ -32,8 +32,8 @@ returns-in_err-claimed c held =
     let same : c.in_ok-prefix.prefix.count ≡ c.in_ok-prefix.prefix.count - 0 = omega arith in
     let said = c.announce.ensures held in
     let a = c.in_ok-piece.ensures (pos c.in_ok-prefix.prefix.count ∷ map quantifier_word (take c.in_ok-prefix.prefix.count c.in_ok-prefix.prefix.every)) said in
-    refused-by _ _ c.from_residual-in_err-claimed.result _ _ (goes_on _ _ _ _ _ _ c.blanks.ensures ∙ goes_on _ _ _ _ _ _ c.in_ok-prefix.ensures.0 ∙ goes_on _ _ _ _ _ _ c.in_ok-sign.ensures ∙ goes_on (equivalence (prefix_of c.in_ok-prefix.prefix).names (nest (prefix_of c.in_ok-prefix.prefix).names 200)) _ _ _ _ _ (ap (λ k. run (equivalence (take k c.in_ok-prefix.prefix.names) (nest (take k c.in_ok-prefix.prefix.names) 200)) c.args.text.now c.sign.new.at) same ∙ a.1) ∙
-    stops _ _ _ _ _ (no-claim c.equivalence.new.sheet (pos c.in_ok-prefix.prefix.count ∷ map quantifier_word (take c.in_ok-prefix.prefix.count c.in_ok-prefix.prefix.every)) a.0 c.in_ok-piece.piece _ c.args.text.now c.equivalence.new.at a.2 (sym c.in_err-claimed.ensures))) c.from_residual-in_err-claimed.ensures.1
+    refused_by _ _ c.from_residual-in_err-claimed.result _ _ (goes_on _ _ _ _ _ _ c.blanks.ensures ∙ goes_on _ _ _ _ _ _ c.in_ok-prefix.ensures.0 ∙ goes_on _ _ _ _ _ _ c.in_ok-sign.ensures ∙ goes_on (equivalence (prefix_of c.in_ok-prefix.prefix).names (nest (prefix_of c.in_ok-prefix.prefix).names 200)) _ _ _ _ _ (ap (λ k. run (equivalence (take k c.in_ok-prefix.prefix.names) (nest (take k c.in_ok-prefix.prefix.names) 200)) c.args.text.now c.sign.new.at) same ∙ a.1) ∙
+    stops _ _ _ _ _ (no_claim c.equivalence.new.sheet (pos c.in_ok-prefix.prefix.count ∷ map quantifier_word (take c.in_ok-prefix.prefix.count c.in_ok-prefix.prefix.every)) a.0 c.in_ok-piece.piece _ c.args.text.now c.equivalence.new.at a.2 (sym c.in_err-claimed.ensures))) c.from_residual-in_err-claimed.ensures.1
 
 pub returns : goal.returns
 unfolding sentence run
@@ -47,6 +47,6 @@ returns c held =
     let long : c.in_ok-prefix.prefix.count ≡ length (prefix_of c.in_ok-prefix.prefix).quantifiers = omega (arith, length-take c.in_ok-prefix.prefix.count c.in_ok-prefix.prefix.every) in (
       record { quantifiers = (prefix_of c.in_ok-prefix.prefix).quantifiers; body = q.0.formula },
       goes_on _ _ _ _ _ _ c.blanks.ensures ∙ goes_on _ _ _ _ _ _ c.in_ok-prefix.ensures.0 ∙ goes_on _ _ _ _ _ _ c.in_ok-sign.ensures ∙ goes_on (equivalence (prefix_of c.in_ok-prefix.prefix).names (nest (prefix_of c.in_ok-prefix.prefix).names 200)) _ _ _ _ _ (ap (λ k. run (equivalence (take k c.in_ok-prefix.prefix.names) (nest (take k c.in_ok-prefix.prefix.names) 200)) c.args.text.now c.sign.new.at) same ∙ a.1) ∙ goes_on _ _ _ _ _ _ q.1,
-      same-words c.equivalence.new.sheet ((pos c.in_ok-prefix.prefix.count ∷ map quantifier_word (take c.in_ok-prefix.prefix.count c.in_ok-prefix.prefix.every)) ++ formula_words q.0.formula) (sentence_words (record { quantifiers = (prefix_of c.in_ok-prefix.prefix).quantifiers; body = q.0.formula }))
+      same_words c.equivalence.new.sheet ((pos c.in_ok-prefix.prefix.count ∷ map quantifier_word (take c.in_ok-prefix.prefix.count c.in_ok-prefix.prefix.every)) ++ formula_words q.0.formula) (sentence_words (record { quantifiers = (prefix_of c.in_ok-prefix.prefix).quantifiers; body = q.0.formula }))
           (ap (λ n. pos n ∷ (map quantifier_word (prefix_of c.in_ok-prefix.prefix).quantifiers ++ formula_words q.0.formula)) long) q.2.1,
     )

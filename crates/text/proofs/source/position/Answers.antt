@@ -3,7 +3,7 @@ use Rattle.std.proofs.Common.{sym, ◌∙◌}
 use Rattle.std.proofs.lemmas.List.{at_drop_all}
 use Rattle.grammar.specs.Tokens.{position}
 use Rattle.text.specs.Outcome.{later_by}
-use Rattle.text.proofs.Positions.{found_here, found-later}
+use Rattle.text.proofs.Positions.{found_here, found_later}
 use Rattle.text.proofs.source.position.Goals as goal
 
 pub returns-then-eq : goal.returns-then-eq
@@ -12,7 +12,7 @@ returns-then-eq c =
 
 pub loop-i-preserved : goal.loop-i-preserved
 loop-i-preserved c =
-    c.loop-i.invariant ∙ found-later c.args.names.now c.args.word _ c.loop-i.i c.loop-i-test.true (sym c.eq.ensures ∙ c.if-eq.false)
+    c.loop-i.invariant ∙ found_later c.args.names.now c.args.word _ c.loop-i.i c.loop-i-test.true (sym c.eq.ensures ∙ c.if-eq.false)
 
 pub returns : goal.returns
 unfolding position

@@ -4,11 +4,11 @@ use Rattle.poly.specs.Modest.{magnitude}
 use Rattle.terms.specs.Monomial.{monomial}
 use Rattle.terms.specs.Operations.{put_term}
 use Rattle.packed.specs.Terms.{terms_in}
-use Rattle.packed.proofs.Places.{key-at}
+use Rattle.packed.proofs.Places.{key_at}
 use Rattle.wide.specs.Written.{written}
 use Rattle.wide.specs.Merging.{scaled_by}
 use Rattle.wide.proofs.Bounds.{product-fits, pair_fits}
-use Rattle.wide.proofs.Merging.{merged-end, merged-left, merged-right, merged-both}
+use Rattle.wide.proofs.Merging.{merged_end, merged_left, merged_right, merged_both}
 use Rattle.wide.proofs.merge.merge_next.Goals as goal
 
 pub scaled-left-requires : goal.scaled-left-requires
@@ -19,24 +19,24 @@ scaled-left-requires c =
 pub push-requires : goal.push-requires
 push-requires c = (
   omega (arith, c.requires.left, c.requires.right, c.requires.short, c.requires.fits.room),
-  omega (arith, ap (λ m. m.key) c.scaled-left.ensures, key-at (2 ^ 63) (scaled_by c.args.by c.args.polynomial) c.args.place.left c.requires.fits.keys-left c.requires.left),
+  omega (arith, ap (λ m. m.key) c.scaled-left.ensures, key_at (2 ^ 63) (scaled_by c.args.by c.args.polynomial) c.args.place.left c.requires.fits.keys_left c.requires.left),
 )
 
 pub returns-then-place-len : goal.returns-then-place-len
 returns-then-place-len c =
-    merged-end (scaled_by c.args.by c.args.polynomial) (written c.args.list.now) c.args.place.left c.args.place.right (written c.args.out.now) c.requires.short _
+    merged_end (scaled_by c.args.by c.args.polynomial) (written c.args.list.now) c.args.place.left c.args.place.right (written c.args.out.now) c.requires.short _
     (c.push.ensures ∙ ap (λ m. written c.args.out.now ++ m ∷ []) c.scaled-left.ensures) c.requires.left (c.if-place-len.true ∙ c.len.ensures)
 
 pub push-requires-then-left-right : goal.push-requires-then-left-right
 push-requires-then-left-right c = (
   omega (arith, c.requires.left, c.requires.right, c.requires.short, c.requires.fits.room),
-  omega (arith, ap (λ m. m.key) c.scaled-left.ensures, key-at (2 ^ 63) (scaled_by c.args.by c.args.polynomial) c.args.place.left c.requires.fits.keys-left c.requires.left),
+  omega (arith, ap (λ m. m.key) c.scaled-left.ensures, key_at (2 ^ 63) (scaled_by c.args.by c.args.polynomial) c.args.place.left c.requires.fits.keys_left c.requires.left),
 )
 
 pub returns-then-left-right : goal.returns-then-left-right
 returns-then-left-right c =
     let j : c.args.place.right < length (written c.args.list.now) = omega (arith, c.len.ensures, c.if-place-len.false, c.requires.right) in
-    merged-left (scaled_by c.args.by c.args.polynomial) (written c.args.list.now) c.args.place.left c.args.place.right (written c.args.out.now) c.requires.short _
+    merged_left (scaled_by c.args.by c.args.polynomial) (written c.args.list.now) c.args.place.left c.args.place.right (written c.args.out.now) c.requires.short _
     (c.push-then-left-right.ensures ∙ ap (λ m. written c.args.out.now ++ m ∷ []) c.scaled-left.ensures) c.requires.left j
     (omega (arith, ap (λ m. m.key) c.scaled-left.ensures, ap (λ m. m.key) c.term-right.ensures, c.if-left-right.true))
 
@@ -44,13 +44,13 @@ pub push-requires-then-right-left : goal.push-requires-then-right-left
 push-requires-then-right-left c =
     let j : c.args.place.right < length (written c.args.list.now) = omega (arith, c.len.ensures, c.if-place-len.false, c.requires.right) in (
       omega (arith, c.requires.left, c.requires.right, c.requires.short, c.requires.fits.room),
-      omega (arith, ap (λ m. m.key) c.term-right.ensures, key-at (2 ^ 63) (written c.args.list.now) c.args.place.right c.requires.fits.keys-right j),
+      omega (arith, ap (λ m. m.key) c.term-right.ensures, key_at (2 ^ 63) (written c.args.list.now) c.args.place.right c.requires.fits.keys_right j),
     )
 
 pub returns-then-right-left : goal.returns-then-right-left
 returns-then-right-left c =
     let j : c.args.place.right < length (written c.args.list.now) = omega (arith, c.len.ensures, c.if-place-len.false, c.requires.right) in
-    merged-right (scaled_by c.args.by c.args.polynomial) (written c.args.list.now) c.args.place.left c.args.place.right (written c.args.out.now) c.requires.short _
+    merged_right (scaled_by c.args.by c.args.polynomial) (written c.args.list.now) c.args.place.left c.args.place.right (written c.args.out.now) c.requires.short _
     (c.push-then-right-left.ensures ∙ ap (λ m. written c.args.out.now ++ m ∷ []) c.term-right.ensures) c.requires.left j
     (omega (arith, ap (λ m. m.key) c.scaled-left.ensures, ap (λ m. m.key) c.term-right.ensures, c.if-right-left.true))
 
@@ -68,7 +68,7 @@ push_sum-requires c =
 pub returns : goal.returns
 returns c =
     let j : c.args.place.right < length (written c.args.list.now) = omega (arith, c.len.ensures, c.if-place-len.false, c.requires.right) in
-    merged-both (scaled_by c.args.by c.args.polynomial) (written c.args.list.now) c.args.place.left c.args.place.right (written c.args.out.now) c.requires.short _
+    merged_both (scaled_by c.args.by c.args.polynomial) (written c.args.list.now) c.args.place.left c.args.place.right (written c.args.out.now) c.requires.short _
     (c.push_sum.ensures ∙
     ap (λ m. written c.args.out.now ++ put_term m [])
     (ap₂ monomial (ap (λ m. m.key) c.scaled-left.ensures) (ap₂ ◌+ℤ◌ (ap (λ m. m.times) c.scaled-left.ensures) (ap (λ m. m.times) c.term-right.ensures))))

@@ -4,8 +4,8 @@ use Rattle.std.proofs.lemmas.Int.{to_z-of_z}
 use Rattle.poly.specs.Poly.{is_zero_number}
 use Rattle.terms.specs.Monomial.{monomial}
 use Rattle.wide.specs.Written.{written}
-use Rattle.wide.proofs.Bounds.{from-size, size_fits, mag-small, zero_bits, other-bits}
-use Rattle.wide.proofs.Merging.{put-none, put_one}
+use Rattle.wide.proofs.Bounds.{from_size, size_fits, mag_small, zero_bits, other_bits}
+use Rattle.wide.proofs.Merging.{put_none, put_one}
 use Rattle.wide.proofs.merge.push_sum.Goals as goal
 
 pub overflow_add-sum : goal.overflow_add-sum
@@ -22,9 +22,9 @@ returns-then-sum-ne0 c =
     let f : SFits w64 c.args.left.coefficient = search rules in
     let g : SFits w64 c.args.right.coefficient = search rules in
     let e = ap₂ ◌+ℤ◌ (to_z-of_z w64 _ f) (to_z-of_z w64 _ g) in
-    let z = subst (λ s. is_zero_number s ≡ false) e (other-bits (to_z w64 (of_z w64 c.args.left.coefficient) +ℤ to_z w64 (of_z w64 c.args.right.coefficient)) c.if-sum-ne0.true) in
+    let z = subst (λ s. is_zero_number s ≡ false) e (other_bits (to_z w64 (of_z w64 c.args.left.coefficient) +ℤ to_z w64 (of_z w64 c.args.right.coefficient)) c.if-sum-ne0.true) in
     c.push.ensures ∙
-    ap (λ x. written c.args.out.now ++ monomial c.args.left.key x ∷ []) (ap (λ s. to_z w64 (of_z w64 s)) e ∙ from-size _ c.requires.size) ∙
+    ap (λ x. written c.args.out.now ++ monomial c.args.left.key x ∷ []) (ap (λ s. to_z w64 (of_z w64 s)) e ∙ from_size _ c.requires.size) ∙
     ap (λ w. written c.args.out.now ++ w) (sym (put_one (monomial c.args.left.key (c.args.left.coefficient +ℤ c.args.right.coefficient)) z))
 
 pub returns-else-sum-ne0 : goal.returns-else-sum-ne0
@@ -32,6 +32,6 @@ returns-else-sum-ne0 c =
     let f : SFits w64 c.args.left.coefficient = search rules in
     let g : SFits w64 c.args.right.coefficient = search rules in
     let e = ap₂ ◌+ℤ◌ (to_z-of_z w64 _ f) (to_z-of_z w64 _ g) in
-    let z = zero_bits (c.args.left.coefficient +ℤ c.args.right.coefficient) (mag-small (c.args.left.coefficient +ℤ c.args.right.coefficient) c.requires.size) (ap (of_z w64) (sym e) ∙ c.if-sum-ne0.false) in
+    let z = zero_bits (c.args.left.coefficient +ℤ c.args.right.coefficient) (mag_small (c.args.left.coefficient +ℤ c.args.right.coefficient) c.requires.size) (ap (of_z w64) (sym e) ∙ c.if-sum-ne0.false) in
     sym (append-nil (written c.args.out.now)) ∙
-    ap (λ w. written c.args.out.now ++ w) (sym (put-none (monomial c.args.left.key (c.args.left.coefficient +ℤ c.args.right.coefficient)) z))
+    ap (λ w. written c.args.out.now ++ w) (sym (put_none (monomial c.args.left.key (c.args.left.coefficient +ℤ c.args.right.coefficient)) z))

@@ -2,7 +2,7 @@
 use Rattle.std.proofs.Common.{◌<◌, length, get_or, pos, sym, ap, ◌∙◌, arith, w64, SFits, rules}
 use Rattle.std.proofs.lemmas.Int.{to_z-of_z}
 use Rattle.terms.specs.Cells.{monomial_of}
-use Rattle.packed.proofs.Places.{length-monomials, monomial-at}
+use Rattle.packed.proofs.Places.{length-monomials, monomial_at}
 use Rattle.packed.proofs.view.View.cell.Goals as goal
 
 pub offset_bounds-self-i : goal.offset_bounds-self-i
@@ -15,4 +15,4 @@ pub returns : goal.returns
 returns c =
     let l : c.args.i < length c.args.self.now.cells.now = omega (arith, length-monomials c.args.self.now.cells.now) in
     let f : SFits w64 (get_or c.args.self.now.cells.now c.args.i (pos 0)) = search rules in
-    ap monomial_of (to_z-of_z w64 _ f) ∙ sym (monomial-at c.args.self.now.cells.now c.args.i l)
+    ap monomial_of (to_z-of_z w64 _ f) ∙ sym (monomial_at c.args.self.now.cells.now c.args.i l)

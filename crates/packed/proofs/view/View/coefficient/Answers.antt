@@ -3,7 +3,7 @@ use Rattle.std.proofs.Common.{◌≡◌, ◌-◌, ◌^◌, pos, ap, ◌∙◌, a
 use Rattle.std.specs.Int.{int_div_euclid}
 use Rattle.poly.specs.Modest.{magnitude}
 use Rattle.packed.specs.Terms.{terms_in, term_at}
-use Rattle.packed.proofs.Places.{from_bits, size-at}
+use Rattle.packed.proofs.Places.{from_bits, size_at}
 use Rattle.packed.proofs.StoredTest.{test-stored}
 use Rattle.packed.proofs.view.View.coefficient.Goals as goal
 
@@ -13,5 +13,5 @@ returns c =
     from_bits c.div_euclid.result c.div_euclid.type_inv ∙ c.div_euclid.ensures ∙
     ap (λ z. int_div_euclid z (pos (2 ^ 20))) (from_bits c.cell.result c.cell.type_inv) ∙ ap (λ m. m.times) c.cell.ensures in
     let s = test-stored c.args.self.now.cells.now c.args.self.now.stored in
-    let b = size-at (2 ^ 27 - 1) (terms_in c.args.self.now) c.args.i s.sizes c.requires in
+    let b = size_at (2 ^ 27 - 1) (terms_in c.args.self.now) c.args.i s.sizes c.requires in
     record { value = e; bound = omega (arith, ap magnitude e, b) }

@@ -1,7 +1,7 @@
 -- Those passed are below, and the one where the count stops isn't.
 use Rattle.std.proofs.Common.{◌<◌, length, ◌∙◌, arith}
 use Rattle.packed.specs.Terms.{terms_in}
-use Rattle.packed.proofs.Leading.{below_more, below-stop, below_end}
+use Rattle.packed.proofs.Leading.{below_more, below_stop, below_end}
 use Rattle.packed.proofs.view.View.count_below.Goals as goal
 
 pub loop-i-preserved : goal.loop-i-preserved
@@ -16,4 +16,4 @@ returns-after-loop-i c =
 pub returns-else-key-bound : goal.returns-else-key-bound
 returns-else-key-bound c =
     let i : c.loop-i.i < length (terms_in c.args.self.now) = omega (arith, c.loop-i-test.true, c.len.ensures.value) in
-    omega (arith, c.loop-i.invariant.0, below-stop c.args.bound (terms_in c.args.self.now) c.loop-i.i i (omega (arith, c.key.ensures.value, c.if-key-bound.false)))
+    omega (arith, c.loop-i.invariant.0, below_stop c.args.bound (terms_in c.args.self.now) c.loop-i.i i (omega (arith, c.key.ensures.value, c.if-key-bound.false)))

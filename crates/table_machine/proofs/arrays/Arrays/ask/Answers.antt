@@ -1,6 +1,6 @@
 use Rattle.std.proofs.Common.{refl}
 use Rattle.table_machine.specs.Cells.{cells_of}
-use Rattle.table_machine.proofs.Moved.{moves-asked, explored-slots, explored-long}
+use Rattle.table_machine.proofs.Moved.{moves-asked, explored_slots, explored_long}
 use Rattle.table_machine.proofs.arrays.Arrays.ask.Goals as goal
 
 pub returns : goal.returns
@@ -14,6 +14,6 @@ returns c =
         moves = moves-asked c.args.others before c.args.at.marks c.args.at.pending after c.explore-marks.result
             c.requires.some.0 c.requires.some.1 c.requires.unknown.0 c.requires.unknown.1 c.explore-marks.ensures;
       };
-      slots = explored-slots c.args.others before c.args.at.marks c.args.at.pending _ _ after c.explore-marks.result c.explore-marks.ensures;
-      long = explored-long c.args.others before c.args.at.marks c.args.at.pending _ _ after c.explore-marks.result c.explore-marks.ensures;
+      slots = explored_slots c.args.others before c.args.at.marks c.args.at.pending _ _ after c.explore-marks.result c.explore-marks.ensures;
+      long = explored_long c.args.others before c.args.at.marks c.args.at.pending _ _ after c.explore-marks.result c.explore-marks.ensures;
     }

@@ -1,7 +1,7 @@
 use Rattle.std.proofs.Common.{◌≡◌, ◌<◌, sym, ap, ◌∙◌, arith}
 use Rattle.table_machine.specs.Cells.{cells_of}
 use Rattle.table_machine.specs.Reals.{reals_from}
-use Rattle.table_machine.proofs.Realness.{highest-start, highest-next, highest-found, none_after}
+use Rattle.table_machine.proofs.Realness.{highest-start, highest-next, highest_found, none_after}
 use Rattle.table_machine.proofs.arrays.Arrays.highest_real.Goals as goal
 
 pub returns-then-first-marks : goal.returns-then-first-marks
@@ -31,4 +31,4 @@ loop-i-preserved c =
 pub returns : goal.returns
 returns c =
     let e : c.loop-i.i ≡ c.args.marks.done = omega (arith, c.loop-i.invariant.1, c.loop-i-test.false) in
-    highest-found c.args.others (cells_of c.args.self.now) c.args.marks c.loop-i.count c.loop-i.i c.loop-i.top c.loop-i.invariant.0 e
+    highest_found c.args.others (cells_of c.args.self.now) c.args.marks c.loop-i.count c.loop-i.i c.loop-i.top c.loop-i.invariant.0 e

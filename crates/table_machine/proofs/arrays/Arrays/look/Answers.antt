@@ -1,7 +1,7 @@
 use Rattle.std.proofs.Common.{length, sym, ap, subst, arith}
 use Rattle.table_machine.specs.Cells.{cells_of}
 use Rattle.table_machine.specs.Moving.{Moves}
-use Rattle.table_machine.proofs.Moved.{moves-zero, moves-known, facing_at}
+use Rattle.table_machine.proofs.Moved.{moves_zero, moves-known, facing_at}
 use Rattle.table_machine.proofs.arrays.Arrays.look.Goals as goal
 
 pub returns-then-is_zero : goal.returns-then-is_zero
@@ -13,7 +13,7 @@ returns-then-is_zero c =
         asked = 0;
         counted = omega arith;
         moves = subst (λ d. Moves c.args.others before c.args.at d (facing_at c.pass_zero-marks.result c.args.at.pending) 0) (sym rest)
-            (moves-zero c.args.others before c.args.at.marks c.args.at.pending c.pass_zero-marks.new.self.lefts.now c.pass_zero-marks.result
+            (moves_zero c.args.others before c.args.at.marks c.args.at.pending c.pass_zero-marks.new.self.lefts.now c.pass_zero-marks.result
             c.requires.some.0 c.requires.some.1 (sym c.if-is_zero.ensures) c.pass_zero-marks.ensures.passes);
       };
       slots = ap (λ d. d.slots) rest;

@@ -1,7 +1,7 @@
 use Rattle.std.proofs.Common.{◌-◌, sym, refl, ap, ◌∙◌}
 use Rattle.table_machine.specs.Cells.{cells_of}
 use Rattle.table_machine.specs.Moving.{is_below}
-use Rattle.table_machine.proofs.Moved.{returned-above, returned-at, explored-slots, explored-long, finishes}
+use Rattle.table_machine.proofs.Moved.{returned_above, returned_at, explored_slots, explored_long, finishes}
 use Rattle.table_machine.proofs.arrays.Arrays.next_branch.Goals as goal
 
 pub returns-in-Above : goal.returns-in-Above
@@ -12,11 +12,11 @@ returns-in-Above c =
     record {
       returns = (
         refl,
-        returned-above c.args.others before c.args.tree q c.args.pending after c.explore-marks.result c.requires.some c.question-question.ensures c.in-Above.is
+        returned_above c.args.others before c.args.tree q c.args.pending after c.explore-marks.result c.requires.some c.question-question.ensures c.in-Above.is
             c.explore-marks.ensures,
       );
-      slots = explored-slots c.args.others before q.marks (c.args.pending - 1) _ _ after c.explore-marks.result c.explore-marks.ensures;
-      long = explored-long c.args.others before q.marks (c.args.pending - 1) _ _ after c.explore-marks.result c.explore-marks.ensures;
+      slots = explored_slots c.args.others before q.marks (c.args.pending - 1) _ _ after c.explore-marks.result c.explore-marks.ensures;
+      long = explored_long c.args.others before q.marks (c.args.pending - 1) _ _ after c.explore-marks.result c.explore-marks.ensures;
     }
 
 pub returns-in-At : goal.returns-in-At
@@ -27,11 +27,11 @@ returns-in-At c =
     record {
       returns = (
         refl,
-        returned-at c.args.others before c.args.tree c.in-At.above q c.args.pending after c.explore-marks-in-At.result c.requires.some c.question-question.ensures
+        returned_at c.args.others before c.args.tree c.in-At.above q c.args.pending after c.explore-marks-in-At.result c.requires.some c.question-question.ensures
             c.in-At.is c.explore-marks-in-At.ensures,
       );
-      slots = explored-slots c.args.others before q.marks (c.args.pending - 1) _ _ after c.explore-marks-in-At.result c.explore-marks-in-At.ensures;
-      long = explored-long c.args.others before q.marks (c.args.pending - 1) _ _ after c.explore-marks-in-At.result c.explore-marks-in-At.ensures;
+      slots = explored_slots c.args.others before q.marks (c.args.pending - 1) _ _ after c.explore-marks-in-At.result c.explore-marks-in-At.ensures;
+      long = explored_long c.args.others before q.marks (c.args.pending - 1) _ _ after c.explore-marks-in-At.result c.explore-marks-in-At.ensures;
     }
 
 pub returns-in-Below : goal.returns-in-Below

@@ -1,12 +1,12 @@
 use Rattle.std.proofs.Common.{sym, rules}
 use Rattle.table_machine.specs.Cells.{cells_of}
-use Rattle.table_machine.proofs.Settled.{settles-zero, settles-passed}
+use Rattle.table_machine.proofs.Settled.{settles_zero, settles-passed}
 use Rattle.table_machine.proofs.arrays.Arrays.settle.Goals as goal
 
 pub returns-then-is_zero : goal.returns-then-is_zero
 returns-then-is_zero c =
     record {
-      settles = settles-zero c.args.others (cells_of c.args.self.now) c.args.marks c.args.sign _ c.requires.hold (sym c.if-is_zero.ensures) c.shorter.ensures;
+      settles = settles_zero c.args.others (cells_of c.args.self.now) c.args.marks c.args.sign _ c.requires.hold (sym c.if-is_zero.ensures) c.shorter.ensures;
       rest = search rules;
       long = search rules;
     }

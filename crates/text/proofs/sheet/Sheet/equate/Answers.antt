@@ -2,7 +2,7 @@
 use Rattle.std.proofs.Common.{min, List, [], ◌∷◌, ◌++◌, length, pos, sym, ap, ◌∙◌, append_assoc}
 use Rattle.grammar.specs.Meaning.{equivalent, formula_words}
 use Rattle.text.specs.Sheet.{Holds, Behind}
-use Rattle.text.proofs.Sheets.{same-words}
+use Rattle.text.proofs.Sheets.{same_words}
 use Rattle.text.proofs.Steps.{regrouped}
 use Rattle.text.proofs.sheet.Sheet.equate.Goals as goal
 
@@ -14,8 +14,8 @@ returns c xs p q begins middle held =
     let end : Behind ((xs ++ pw) ++ qw) c.args.self.now.count = held.counted ∙ ap (λ (l : List _). min (length l) 1025) (sym (append_assoc xs pw qw)) in
     let puts = c.put-2.ensures ((xs ++ (pw ++ qw)) ++ (pos 5 ∷ [])) (c.put.ensures (xs ++ (pw ++ qw)) held) in
     let shaped : Holds c.put-2.new.self ((xs ++ pw) ++ (qw ++ (pos 5 ∷ pos 3 ∷ []))) =
-    same-words c.put-2.new.self (((xs ++ (pw ++ qw)) ++ (pos 5 ∷ [])) ++ (pos 3 ∷ [])) ((xs ++ pw) ++ (qw ++ (pos 5 ∷ pos 3 ∷ []))) (simp append_assoc) puts in
+    same_words c.put-2.new.self (((xs ++ (pw ++ qw)) ++ (pos 5 ∷ [])) ++ (pos 3 ∷ [])) ((xs ++ pw) ++ (qw ++ (pos 5 ∷ pos 3 ∷ []))) (simp append_assoc) puts in
     let second = c.repeat.ensures (xs ++ pw) qw (pos 5 ∷ pos 3 ∷ []) middle end shaped in
     let first = c.repeat-2.ensures xs pw (qw ++ ((pos 5 ∷ pos 3 ∷ []) ++ qw)) begins middle (regrouped c.repeat.new.self xs pw (qw ++ ((pos 5 ∷ pos 3 ∷ []) ++ qw)) second) in
-    same-words c.insert.new.self _ (xs ++ formula_words (equivalent p q)) (simp append_assoc)
+    same_words c.insert.new.self _ (xs ++ formula_words (equivalent p q)) (simp append_assoc)
     (c.insert.ensures xs _ begins (c.imply.ensures xs _ begins first))

@@ -1,7 +1,7 @@
 -- The words are put at the end one by one.
 use Rattle.std.proofs.Common.{◌≡◌, ◌+◌, ◌-◌, ◌≤◌, ◌++◌, length, get_or, take, pos, ap, arith, length-append, take_all, w64, SFits, rules}
 use Rattle.std.proofs.lemmas.Int.{to_z-of_z}
-use Rattle.text.proofs.Sheets.{too_many, same-words, repeated}
+use Rattle.text.proofs.Sheets.{too_many, same_words, repeated}
 use Rattle.text.proofs.sheet.Sheet.repeat.Goals as goal
 
 pub returns-then-to-gt-CAPACITY : goal.returns-then-to-gt-CAPACITY
@@ -23,5 +23,5 @@ pub returns : goal.returns
 returns c xs ys zs begins ends held =
     let front : length (xs ++ ys) ≡ length xs + length ys = length-append xs ys in
     let k : length ys ≤ c.loop-i.i - c.args.from = omega (arith, c.if-to-gt-CAPACITY.false, c.loop-i-test.false) in
-    same-words c.loop-i.self (xs ++ (ys ++ (zs ++ take (c.loop-i.i - c.args.from) ys))) (xs ++ (ys ++ (zs ++ ys))) (ap (λ l. xs ++ (ys ++ (zs ++ l))) (take_all (c.loop-i.i - c.args.from) ys k))
+    same_words c.loop-i.self (xs ++ (ys ++ (zs ++ take (c.loop-i.i - c.args.from) ys))) (xs ++ (ys ++ (zs ++ ys))) (ap (λ l. xs ++ (ys ++ (zs ++ l))) (take_all (c.loop-i.i - c.args.from) ys k))
     (c.loop-i.invariant xs ys zs begins ends held)

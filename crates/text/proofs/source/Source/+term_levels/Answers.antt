@@ -9,21 +9,21 @@ use Rattle.grammar.specs.Nesting.{nest}
 use Rattle.grammar.specs.Reader.{run, Look}
 use Rattle.grammar.specs.Terms.{grouped, primary_of, factor, times_next, times_for, product, taken, taken_of, added, summand_of, plus_next, begins_summand, plus_for, plus, negated, leading_of, sum}
 use Rattle.grammar.specs.Tokens.{sign}
-use Rattle.grammar.proofs.Runs.{goes_on, stops, while-goes, while-stops, while-ended, while-over}
-use Rattle.text.proofs.Sheets.{same-words}
-use Rattle.text.proofs.Steps.{read_by, refused-by, chose, passed_over, closes, no_deeper-sum, deeper-sum, no_deeper-product, deeper-product, regrouped}
+use Rattle.grammar.proofs.Runs.{goes_on, stops, while_goes, while_stops, while-ended, while-over}
+use Rattle.text.proofs.Sheets.{same_words}
+use Rattle.text.proofs.Steps.{read_by, refused_by, chose, passed_over, closes, no_deeper_sum, deeper_sum, no_deeper_product, deeper_product, regrouped}
 use Rattle.text.proofs.source.Source.+term_levels.Goals as goal
 use Rattle.text.proofs.source.Source.+term_levels.Goals.{plus-else-c-ne43-via-then-c-ne43+else-c-ne45, plus-else-c-ne43-via-else-c-ne43, plus_next-else-may_arrow-via-then-may_arrow+else-front-eq62, plus_next-else-may_arrow-via-else-may_arrow}
 
 pub added-returns-in_err-sign : goal.added-returns-in_err-sign
 unfolding added
 added-returns-in_err-sign m c xs t begins held =
-    refused-by _ _ c.from_residual.result _ _ (stops _ _ _ _ _ c.in_err-sign.ensures) c.from_residual.ensures.1
+    refused_by _ _ c.from_residual.result _ _ (stops _ _ _ _ _ c.in_err-sign.ensures) c.from_residual.ensures.1
 
 pub added-returns-in_err-product : goal.added-returns-in_err-product
 unfolding added
 added-returns-in_err-product m c xs t begins held =
-    refused-by _ _ c.from_residual-in_err-product.result _ _ (goes_on _ _ _ _ _ _ c.in_ok-sign.ensures ∙ stops _ _ _ _ _ (c.in_err-product.ensures (xs ++ term_words t) held)) c.from_residual-in_err-product.ensures.1
+    refused_by _ _ c.from_residual-in_err-product.result _ _ (goes_on _ _ _ _ _ _ c.in_ok-sign.ensures ∙ stops _ _ _ _ _ (c.in_err-product.ensures (xs ++ term_words t) held)) c.from_residual-in_err-product.ensures.1
 
 pub added-returns : goal.added-returns
 unfolding added run term_words
@@ -37,7 +37,7 @@ added-returns m c xs t begins held =
 pub factor-returns-in_err-primary : goal.factor-returns-in_err-primary
 unfolding factor run
 factor-returns-in_err-primary m c xs held =
-    refused-by _ _ c.from_residual.result _ _ (stops _ _ _ _ _ (c.in_err-primary.ensures xs held)) c.from_residual.ensures.1
+    refused_by _ _ c.from_residual.result _ _ (stops _ _ _ _ _ (c.in_err-primary.ensures xs held)) c.from_residual.ensures.1
 
 pub factor-returns : goal.factor-returns
 unfolding factor run
@@ -48,23 +48,23 @@ factor-returns m c xs held =
 pub group-returns-in_err-sign : goal.group-returns-in_err-sign
 unfolding grouped
 group-returns-in_err-sign m c xs held =
-    refused-by _ _ c.from_residual.result _ _ (stops _ _ _ _ _ c.in_err-sign.ensures) c.from_residual.ensures.1
+    refused_by _ _ c.from_residual.result _ _ (stops _ _ _ _ _ c.in_err-sign.ensures) c.from_residual.ensures.1
 
 pub group-returns-then-depth-eq0 : goal.group-returns-then-depth-eq0
 unfolding grouped run
 group-returns-then-depth-eq0 m c xs held =
-    goes_on _ _ _ _ _ _ c.in_ok-sign.ensures ∙ stops _ _ _ _ _ (ap (λ r. run r c.args.self.now.text.now c.sign.new.at) (no_deeper-sum c.args.self.now.names.now c.args.depth c.if-depth-eq0.true))
+    goes_on _ _ _ _ _ _ c.in_ok-sign.ensures ∙ stops _ _ _ _ _ (ap (λ r. run r c.args.self.now.text.now c.sign.new.at) (no_deeper_sum c.args.self.now.names.now c.args.depth c.if-depth-eq0.true))
 
 pub group-returns-in_err-sum : goal.group-returns-in_err-sum
 unfolding grouped
 group-returns-in_err-sum m c xs held =
-    refused-by _ _ c.from_residual-in_err-sum.result _ _ (goes_on _ _ _ _ _ _ c.in_ok-sign.ensures ∙ stops _ _ _ _ _ (ap (λ r. run r c.args.self.now.text.now c.sign.new.at) (deeper-sum c.args.self.now.names.now c.args.depth c.if-depth-eq0.false) ∙ stops _ _ _ _ _ (c.in_err-sum.ensures xs held))) c.from_residual-in_err-sum.ensures.1
+    refused_by _ _ c.from_residual-in_err-sum.result _ _ (goes_on _ _ _ _ _ _ c.in_ok-sign.ensures ∙ stops _ _ _ _ _ (ap (λ r. run r c.args.self.now.text.now c.sign.new.at) (deeper_sum c.args.self.now.names.now c.args.depth c.if-depth-eq0.false) ∙ stops _ _ _ _ _ (c.in_err-sum.ensures xs held))) c.from_residual-in_err-sum.ensures.1
 
 pub group-returns : goal.group-returns
 unfolding grouped run
 group-returns m c xs held =
     let p = c.in_ok-sum.ensures xs held in
-    read_by _ _ _ c.sign-2.result _ (goes_on _ _ _ _ _ _ c.in_ok-sign.ensures ∙ goes_on _ _ _ _ _ _ (ap (λ r. run r c.args.self.now.text.now c.sign.new.at) (deeper-sum c.args.self.now.names.now c.args.depth c.if-depth-eq0.false) ∙ goes_on _ _ _ _ _ _ p.1))
+    read_by _ _ _ c.sign-2.result _ (goes_on _ _ _ _ _ _ c.in_ok-sign.ensures ∙ goes_on _ _ _ _ _ _ (ap (λ r. run r c.args.self.now.text.now c.sign.new.at) (deeper_sum c.args.self.now.names.now c.args.depth c.if-depth-eq0.false) ∙ goes_on _ _ _ _ _ _ p.1))
     (closes _ (sign (41 ∷ [])) p.0.term _ _ c.sign-2.result _ c.sign-2.ensures (λ _. p.2.1))
 
 pub leading-returns-then-front-eq45 : goal.leading-returns-then-front-eq45
@@ -80,24 +80,24 @@ leading-returns-else-front-eq45 m c xs held =
 pub negated-returns-in_err-sign : goal.negated-returns-in_err-sign
 unfolding negated
 negated-returns-in_err-sign m c xs held =
-    refused-by _ _ c.from_residual.result _ _ (stops _ _ _ _ _ c.in_err-sign.ensures) c.from_residual.ensures.1
+    refused_by _ _ c.from_residual.result _ _ (stops _ _ _ _ _ c.in_err-sign.ensures) c.from_residual.ensures.1
 
 pub negated-returns-then-depth-eq0 : goal.negated-returns-then-depth-eq0
 unfolding negated run
 negated-returns-then-depth-eq0 m c xs held =
-    goes_on _ _ _ _ _ _ c.in_ok-sign.ensures ∙ stops _ _ _ _ _ (ap (λ r. run r c.args.self.now.text.now c.sign.new.at) (no_deeper-product c.args.self.now.names.now c.args.depth c.if-depth-eq0.true))
+    goes_on _ _ _ _ _ _ c.in_ok-sign.ensures ∙ stops _ _ _ _ _ (ap (λ r. run r c.args.self.now.text.now c.sign.new.at) (no_deeper_product c.args.self.now.names.now c.args.depth c.if-depth-eq0.true))
 
 pub negated-returns-in_err-product : goal.negated-returns-in_err-product
 unfolding negated
 negated-returns-in_err-product m c xs held =
-    refused-by _ _ c.from_residual-in_err-product.result _ _ (goes_on _ _ _ _ _ _ c.in_ok-sign.ensures ∙ stops _ _ _ _ _ (ap (λ r. run r c.args.self.now.text.now c.sign.new.at) (deeper-product c.args.self.now.names.now c.args.depth c.if-depth-eq0.false) ∙ c.in_err-product.ensures xs held)) c.from_residual-in_err-product.ensures.1
+    refused_by _ _ c.from_residual-in_err-product.result _ _ (goes_on _ _ _ _ _ _ c.in_ok-sign.ensures ∙ stops _ _ _ _ _ (ap (λ r. run r c.args.self.now.text.now c.sign.new.at) (deeper_product c.args.self.now.names.now c.args.depth c.if-depth-eq0.false) ∙ c.in_err-product.ensures xs held)) c.from_residual-in_err-product.ensures.1
 
 pub negated-returns : goal.negated-returns
 unfolding negated run term_words
 negated-returns m c xs held =
     let p = c.in_ok-product.ensures xs held in (
       negative p.0,
-      goes_on _ _ _ _ _ _ c.in_ok-sign.ensures ∙ goes_on _ _ _ _ _ _ (ap (λ r. run r c.args.self.now.text.now c.sign.new.at) (deeper-product c.args.self.now.names.now c.args.depth c.if-depth-eq0.false) ∙ p.1),
+      goes_on _ _ _ _ _ _ c.in_ok-sign.ensures ∙ goes_on _ _ _ _ _ _ (ap (λ r. run r c.args.self.now.text.now c.sign.new.at) (deeper_product c.args.self.now.names.now c.args.depth c.if-depth-eq0.false) ∙ p.1),
       c.negate.ensures xs (term_words p.0) held.counted p.2,
     )
 
@@ -125,7 +125,7 @@ plus-returns-in_err-plus_next m c xs t begins held =
       | plus-else-c-ne43-via-then-c-ne43+else-c-ne45 v ↦ or_right _ _ (eq-eqb _ 45 (sym c.front-c.ensures ∙ v.if-c-ne45.false))
       | plus-else-c-ne43-via-else-c-ne43 v ↦ or_left _ _ (eq-eqb _ 43 (sym c.front-c.ensures ∙ v.if-c-ne43.false))
     ] in
-    refused-by _ _ c.from_residual.result _ _ (i.1 ∙ while-stops begins_summand (plus_next c.args.self.now.names.now (nest c.args.self.now.names.now c.args.depth) c.args.may_arrow) 65536 c.loop-turn._turn (record { term = i.0; arrow = false }) c.args.self.now.text.now c.loop-turn.at _ c.loop-turn-test.true sign-here (c.in_err-plus_next.ensures xs i.0 begins i.2)) c.from_residual.ensures.1
+    refused_by _ _ c.from_residual.result _ _ (i.1 ∙ while_stops begins_summand (plus_next c.args.self.now.names.now (nest c.args.self.now.names.now c.args.depth) c.args.may_arrow) 65536 c.loop-turn._turn (record { term = i.0; arrow = false }) c.args.self.now.text.now c.loop-turn.at _ c.loop-turn-test.true sign-here (c.in_err-plus_next.ensures xs i.0 begins i.2)) c.from_residual.ensures.1
 
 pub plus-returns-then-branch : goal.plus-returns-then-branch
 unfolding plus_for plus_next run
@@ -138,7 +138,7 @@ plus-returns-then-branch m c xs t begins held =
     ] in
     let n = c.in_ok-plus_next.ensures xs i.0 begins i.2 in (
       n.0,
-      i.1 ∙ while-goes begins_summand (plus_next c.args.self.now.names.now (nest c.args.self.now.names.now c.args.depth) c.args.may_arrow) 65536 c.loop-turn._turn (record { term = i.0; arrow = false }) c.args.self.now.text.now c.loop-turn.at n.0 _ c.loop-turn-test.true sign-here n.1 ∙
+      i.1 ∙ while_goes begins_summand (plus_next c.args.self.now.names.now (nest c.args.self.now.names.now c.args.depth) c.args.may_arrow) 65536 c.loop-turn._turn (record { term = i.0; arrow = false }) c.args.self.now.text.now c.loop-turn.at n.0 _ c.loop-turn-test.true sign-here n.1 ∙
           while-ended begins_summand (plus_next c.args.self.now.names.now (nest c.args.self.now.names.now c.args.depth) c.args.may_arrow) _ n.0 c.args.self.now.text.now c.plus_next.new.at (and_left _ _ (ap not (n.2.0 ∙ c.if-branch.true))),
       (n.2.0 ∙ c.if-branch.true, n.2.1),
     )
@@ -154,7 +154,7 @@ plus-loop-turn-preserved m c xs t begins held =
     ] in
     let n = c.in_ok-plus_next.ensures xs i.0 begins i.2 in (
       n.0.term,
-      i.1 ∙ while-goes begins_summand (plus_next c.args.self.now.names.now (nest c.args.self.now.names.now c.args.depth) c.args.may_arrow) 65536 c.loop-turn._turn (record { term = i.0; arrow = false }) c.args.self.now.text.now c.loop-turn.at n.0 _ c.loop-turn-test.true sign-here n.1 ∙
+      i.1 ∙ while_goes begins_summand (plus_next c.args.self.now.names.now (nest c.args.self.now.names.now c.args.depth) c.args.may_arrow) 65536 c.loop-turn._turn (record { term = i.0; arrow = false }) c.args.self.now.text.now c.loop-turn.at n.0 _ c.loop-turn-test.true sign-here n.1 ∙
           ap (λ b. run (plus_for (65536 - (c.loop-turn._turn + 1)) c.args.self.now.names.now (nest c.args.self.now.names.now c.args.depth) c.args.may_arrow (record { term = n.0.term; arrow = b })) c.args.self.now.text.now c.plus_next.new.at) (n.2.0 ∙ c.if-branch.false),
       n.2.1,
     )
@@ -173,7 +173,7 @@ plus_next-returns-then-front-eq43 m c xs t begins held =
 pub plus_next-returns-in_err-sign : goal.plus_next-returns-in_err-sign
 unfolding summand_of taken_of run
 plus_next-returns-in_err-sign m c xs t begins held =
-    refused-by _ _ c.from_residual.result _ _ (passed_over _ _ _ _ _ (ne_eqb _ 43 (λ e. c.if-front-eq43.false (c.front.ensures ∙ e))) ∙ ap (λ n. run (Look (taken_of c.args.self.now.names.now (nest c.args.self.now.names.now c.args.depth) c.args.may_arrow t)) c.args.self.now.text.now n) (sym c.pass.ensures) ∙ chose _ _ _ _ _ (and_from _ _ c.if-may_arrow.true (eq-eqb _ 62 (sym c.front-then-may_arrow.ensures ∙ c.if-front-eq62.true))) ∙ stops _ _ _ _ _ c.in_err-sign.ensures) c.from_residual.ensures.1
+    refused_by _ _ c.from_residual.result _ _ (passed_over _ _ _ _ _ (ne_eqb _ 43 (λ e. c.if-front-eq43.false (c.front.ensures ∙ e))) ∙ ap (λ n. run (Look (taken_of c.args.self.now.names.now (nest c.args.self.now.names.now c.args.depth) c.args.may_arrow t)) c.args.self.now.text.now n) (sym c.pass.ensures) ∙ chose _ _ _ _ _ (and_from _ _ c.if-may_arrow.true (eq-eqb _ 62 (sym c.front-then-may_arrow.ensures ∙ c.if-front-eq62.true))) ∙ stops _ _ _ _ _ c.in_err-sign.ensures) c.from_residual.ensures.1
 
 pub plus_next-returns-then-front-eq62 : goal.plus_next-returns-then-front-eq62
 unfolding summand_of taken_of run
@@ -193,7 +193,7 @@ plus_next-returns m c xs t begins held =
 pub primary-returns-in_err-word : goal.primary-returns-in_err-word
 unfolding primary_of
 primary-returns-in_err-word m c xs held =
-    refused-by _ _ c.from_residual.result _ _ (chose _ _ _ _ _ (ap is_letter (sym c.front-c.ensures) ∙ sym c.if-is_letter.ensures) ∙ stops _ _ _ _ _ c.in_err-word.ensures) c.from_residual.ensures.1
+    refused_by _ _ c.from_residual.result _ _ (chose _ _ _ _ _ (ap is_letter (sym c.front-c.ensures) ∙ sym c.if-is_letter.ensures) ∙ stops _ _ _ _ _ c.in_err-word.ensures) c.from_residual.ensures.1
 
 pub primary-returns-then-is_letter : goal.primary-returns-then-is_letter
 unfolding primary_of
@@ -207,7 +207,7 @@ primary-returns-then-is_digit m c xs held = (
   passed_over _ _ _ _ _ (ap is_letter (sym c.front-c.ensures) ∙ sym c.if-is_letter.ensures) ∙ chose _ _ _ _ _ (ap is_digit (sym c.front-c.ensures) ∙ sym c.if-is_digit.ensures) ∙ goes_on _ _ _ _ _ _ c.number-number.ensures,
   let fits : SFits w64 (pos c.number-number.result) = search rules in
       regrouped c.put-then-is_digit.new.self xs (pos 7 ∷ []) (pos c.number-number.result ∷ [])
-      (same-words c.put-then-is_digit.new.self _ _ (ap (λ u. (xs ++ (pos 7 ∷ [])) ++ (u ∷ [])) (to_z-of_z w64 (pos c.number-number.result) fits)) (c.put-then-is_digit.ensures (xs ++ (pos 7 ∷ [])) (c.put.ensures xs held))),
+      (same_words c.put-then-is_digit.new.self _ _ (ap (λ u. (xs ++ (pos 7 ∷ [])) ++ (u ∷ [])) (to_z-of_z w64 (pos c.number-number.result) fits)) (c.put-then-is_digit.ensures (xs ++ (pos 7 ∷ [])) (c.put.ensures xs held))),
 )
 
 pub primary-returns : goal.primary-returns
@@ -218,7 +218,7 @@ primary-returns m c xs held =
 pub product-returns-in_err-factor : goal.product-returns-in_err-factor
 unfolding product
 product-returns-in_err-factor m c xs held =
-    refused-by _ _ c.from_residual.result _ _ (stops _ _ _ _ _ (c.in_err-factor.ensures xs held)) c.from_residual.ensures.1
+    refused_by _ _ c.from_residual.result _ _ (stops _ _ _ _ _ (c.in_err-factor.ensures xs held)) c.from_residual.ensures.1
 
 pub product-returns : goal.product-returns
 unfolding product
@@ -229,7 +229,7 @@ product-returns m c xs held =
 pub sum-returns-in_err-leading : goal.sum-returns-in_err-leading
 unfolding sum run
 sum-returns-in_err-leading m c xs held =
-    refused-by _ _ c.from_residual.result _ _ (stops (Look (leading_of c.args.self.now.names.now (nest c.args.self.now.names.now c.args.depth))) _ _ _ _ (c.in_err-leading.ensures xs held)) c.from_residual.ensures.1
+    refused_by _ _ c.from_residual.result _ _ (stops (Look (leading_of c.args.self.now.names.now (nest c.args.self.now.names.now c.args.depth))) _ _ _ _ (c.in_err-leading.ensures xs held)) c.from_residual.ensures.1
 
 pub sum-returns : goal.sum-returns
 unfolding sum run
@@ -240,7 +240,7 @@ sum-returns m c xs held =
 pub taken-returns-in_err-product : goal.taken-returns-in_err-product
 unfolding taken
 taken-returns-in_err-product m c xs t begins held =
-    refused-by _ _ c.from_residual.result _ _ (goes_on _ _ _ _ _ _ c.blanks.ensures ∙ stops _ _ _ _ _ (c.in_err-product.ensures (xs ++ term_words t) held)) c.from_residual.ensures.1
+    refused_by _ _ c.from_residual.result _ _ (goes_on _ _ _ _ _ _ c.blanks.ensures ∙ stops _ _ _ _ _ (c.in_err-product.ensures (xs ++ term_words t) held)) c.from_residual.ensures.1
 
 pub taken-returns : goal.taken-returns
 unfolding taken run term_words
@@ -265,14 +265,14 @@ pub times-returns-in_err-times_next : goal.times-returns-in_err-times_next
 unfolding times_for
 times-returns-in_err-times_next m c xs t begins held =
     let i = c.loop-turn.invariant xs t begins held in
-    refused-by _ _ c.from_residual.result _ _ (i.1 ∙ while-stops (λ _ d. eqb d 42) (times_next c.args.self.now.names.now (nest c.args.self.now.names.now c.args.depth)) 65536 c.loop-turn._turn i.0 c.args.self.now.text.now c.loop-turn.at _ c.loop-turn-test.true (eq-eqb _ 42 (sym c.front.ensures ∙ c.if-front-ne42.false)) (c.in_err-times_next.ensures xs i.0 begins i.2)) c.from_residual.ensures.1
+    refused_by _ _ c.from_residual.result _ _ (i.1 ∙ while_stops (λ _ d. eqb d 42) (times_next c.args.self.now.names.now (nest c.args.self.now.names.now c.args.depth)) 65536 c.loop-turn._turn i.0 c.args.self.now.text.now c.loop-turn.at _ c.loop-turn-test.true (eq-eqb _ 42 (sym c.front.ensures ∙ c.if-front-ne42.false)) (c.in_err-times_next.ensures xs i.0 begins i.2)) c.from_residual.ensures.1
 
 pub times-loop-turn-preserved : goal.times-loop-turn-preserved
 unfolding times_for
 times-loop-turn-preserved m c xs t begins held =
     let i = c.loop-turn.invariant xs t begins held in
     let n = c.in_ok-times_next.ensures xs i.0 begins i.2 in
-    (n.0, i.1 ∙ while-goes (λ _ d. eqb d 42) (times_next c.args.self.now.names.now (nest c.args.self.now.names.now c.args.depth)) 65536 c.loop-turn._turn i.0 c.args.self.now.text.now c.loop-turn.at n.0 _ c.loop-turn-test.true (eq-eqb _ 42 (sym c.front.ensures ∙ c.if-front-ne42.false)) n.1, n.2)
+    (n.0, i.1 ∙ while_goes (λ _ d. eqb d 42) (times_next c.args.self.now.names.now (nest c.args.self.now.names.now c.args.depth)) 65536 c.loop-turn._turn i.0 c.args.self.now.text.now c.loop-turn.at n.0 _ c.loop-turn-test.true (eq-eqb _ 42 (sym c.front.ensures ∙ c.if-front-ne42.false)) n.1, n.2)
 
 pub times-returns : goal.times-returns
 unfolding times_for
@@ -283,12 +283,12 @@ times-returns m c xs t begins held =
 pub times_next-returns-in_err-sign : goal.times_next-returns-in_err-sign
 unfolding times_next
 times_next-returns-in_err-sign m c xs t begins held =
-    refused-by _ _ c.from_residual.result _ _ (stops _ _ _ _ _ c.in_err-sign.ensures) c.from_residual.ensures.1
+    refused_by _ _ c.from_residual.result _ _ (stops _ _ _ _ _ c.in_err-sign.ensures) c.from_residual.ensures.1
 
 pub times_next-returns-in_err-factor : goal.times_next-returns-in_err-factor
 unfolding times_next
 times_next-returns-in_err-factor m c xs t begins held =
-    refused-by _ _ c.from_residual-in_err-factor.result _ _ (goes_on _ _ _ _ _ _ c.in_ok-sign.ensures ∙ stops _ _ _ _ _ (c.in_err-factor.ensures (xs ++ term_words t) held)) c.from_residual-in_err-factor.ensures.1
+    refused_by _ _ c.from_residual-in_err-factor.result _ _ (goes_on _ _ _ _ _ _ c.in_ok-sign.ensures ∙ stops _ _ _ _ _ (c.in_err-factor.ensures (xs ++ term_words t) held)) c.from_residual-in_err-factor.ensures.1
 
 pub times_next-returns : goal.times_next-returns
 unfolding times_next run term_words

@@ -4,7 +4,7 @@ use Rattle.std.proofs.lemmas.Bool.{and_left, and_right, and_from, lt-leb, le-leb
 use Rattle.grammar.specs.Characters.{is_digit}
 use Rattle.grammar.specs.Reader.{run}
 use Rattle.grammar.specs.Tokens.{digits_for}
-use Rattle.grammar.proofs.Tokens.{digits-again, digits-ended, digits-over}
+use Rattle.grammar.proofs.Tokens.{digits_again, digits-ended, digits-over}
 use Rattle.text.proofs.source.Source.digits.Goals as goal
 
 -- a digit that keeps the number within its bound
@@ -27,7 +27,7 @@ pub loop-turn-preserved : goal.loop-turn-preserved
 loop-turn-preserved c =
     let e : fits c.loop-turn.number (get_or c.args.self.now.text.now c.loop-turn.at 0) ≡ true =
     ap (fits c.loop-turn.number) (sym c.front-c.ensures) ∙ and_from (is_digit c.front-c.result) _ (sym c.if-not-is_digit.ensures) (le-leb _ 65535 c.if-longer-gt-LARGEST.false) in (
-      c.loop-turn.invariant.0 ∙ digits-again 5 c.loop-turn._turn c.loop-turn.number c.args.self.now.text.now c.loop-turn.at c.loop-turn-test.true e ∙
+      c.loop-turn.invariant.0 ∙ digits_again 5 c.loop-turn._turn c.loop-turn.number c.args.self.now.text.now c.loop-turn.at c.loop-turn-test.true e ∙
           ap₂ (λ d n. run (digits_for (5 - (c.loop-turn._turn + 1)) (c.loop-turn.number * 10 + (d - 48))) c.args.self.now.text.now n) (sym c.front-c.ensures) (sym c.pass.ensures),
       c.if-longer-gt-LARGEST.false,
     )

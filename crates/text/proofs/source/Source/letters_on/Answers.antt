@@ -3,7 +3,7 @@ use Rattle.std.proofs.Common.{◌≡◌, suc, ◌+◌, ◌-◌, true, false, get
 use Rattle.grammar.specs.Characters.{is_letter}
 use Rattle.grammar.specs.Reader.{run}
 use Rattle.grammar.specs.Tokens.{letters_for, with_letter}
-use Rattle.grammar.proofs.Tokens.{letters-again, letters-ended, letters-over}
+use Rattle.grammar.proofs.Tokens.{letters_again, letters-ended, letters-over}
 use Rattle.text.proofs.source.Source.letters_on.Goals as goal
 
 pub returns-then-not-is_letter : goal.returns-then-not-is_letter
@@ -17,7 +17,7 @@ loop-i-preserved c =
     let long : suc c.loop-i.word.length ≡ c.loop-i.i + 1 = omega (arith, c.loop-i.invariant.1) in
     let word : with_letter c.loop-i.word (get_or c.args.self.now.text.now c.loop-i.at 0) ≡ record { letters = set c.loop-i.word.letters c.loop-i.i c.front-c.result; length = c.loop-i.i + 1 } =
     λ k. record { letters = set c.loop-i.word.letters (c.loop-i.invariant.1 k) (sym c.front-c.ensures k); length = long k } in (
-      c.loop-i.invariant.0 ∙ letters-again 8 c.loop-i.i c.loop-i.word c.args.self.now.text.now c.loop-i.at c.loop-i-test.true e ∙
+      c.loop-i.invariant.0 ∙ letters_again 8 c.loop-i.i c.loop-i.word c.args.self.now.text.now c.loop-i.at c.loop-i-test.true e ∙
           ap₂ (λ v n. run (letters_for (8 - (c.loop-i.i + 1)) v) c.args.self.now.text.now n) word (sym c.pass.ensures),
       refl,
     )

@@ -8,7 +8,7 @@ use Rattle.grammar.specs.Reader.{run, Give, Refuse, ◌>>◌}
 use Rattle.grammar.specs.Terms.{named}
 use Rattle.grammar.specs.Tokens.{variable, blanks}
 use Rattle.grammar.proofs.Runs.{goes_on, stops}
-use Rattle.text.proofs.Sheets.{same-words}
+use Rattle.text.proofs.Sheets.{same_words}
 use Rattle.text.proofs.Steps.{chose, passed_over, regrouped}
 use Rattle.text.proofs.source.Source.named.Goals as goal
 
@@ -34,5 +34,5 @@ returns c xs held = (
       goes_on _ _ _ _ _ _ c.blanks.ensures),
   let fits : SFits w64 (pos c.in-Some.i) = search rules in
       regrouped c.put-2.new.self xs (pos 6 ∷ []) (pos c.in-Some.i ∷ [])
-      (same-words c.put-2.new.self _ _ (ap (λ u. (xs ++ (pos 6 ∷ [])) ++ (u ∷ [])) (to_z-of_z w64 (pos c.in-Some.i) fits)) (c.put-2.ensures (xs ++ (pos 6 ∷ [])) (c.put.ensures xs held))),
+      (same_words c.put-2.new.self _ _ (ap (λ u. (xs ++ (pos 6 ∷ [])) ++ (u ∷ [])) (to_z-of_z w64 (pos c.in-Some.i) fits)) (c.put-2.ensures (xs ++ (pos 6 ∷ [])) (c.put.ensures xs held))),
 )

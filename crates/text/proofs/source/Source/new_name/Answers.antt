@@ -4,13 +4,13 @@ use Rattle.grammar.specs.declared.fault.Fault.TheVariants.{Wrong}
 use Rattle.grammar.specs.Reader.{run, Give, Refuse, ◌>>◌}
 use Rattle.grammar.specs.Tokens.{new_name, blanks}
 use Rattle.grammar.proofs.Runs.{goes_on, stops}
-use Rattle.text.proofs.Exits.{handed-on}
+use Rattle.text.proofs.Exits.{handed_on_lem}
 use Rattle.text.proofs.Steps.{chose, passed_over}
 use Rattle.text.proofs.source.Source.new_name.Goals as goal
 
 pub returns-in_err-word : goal.returns-in_err-word
 unfolding new_name
-returns-in_err-word c = stops _ _ _ _ _ c.in_err-word.ensures ∙ handed-on c.from_residual.result _ _ c.from_residual.ensures.1
+returns-in_err-word c = stops _ _ _ _ _ c.in_err-word.ensures ∙ handed_on_lem c.from_residual.result _ _ c.from_residual.ensures.1
 
 pub returns-then-is_reserved : goal.returns-then-is_reserved
 unfolding new_name run

@@ -6,7 +6,7 @@ use Rattle.grammar.specs.Reader.{run, Give, ◌>>◌}
 use Rattle.grammar.specs.Terms.{raised}
 use Rattle.grammar.specs.Tokens.{blanks}
 use Rattle.grammar.proofs.Runs.{goes_on, stops}
-use Rattle.text.proofs.Steps.{refused-by, chose, passed_over}
+use Rattle.text.proofs.Steps.{refused_by, chose, passed_over}
 use Rattle.text.proofs.source.Source.raised.Goals as goal
 
 pub returns-then-front-ne94 : goal.returns-then-front-ne94
@@ -17,7 +17,7 @@ returns-then-front-ne94 c xs t begins held =
 pub returns-in_err-sign : goal.returns-in_err-sign
 unfolding raised run
 returns-in_err-sign c xs t begins held =
-    refused-by _ _ c.from_residual.result _ _ (chose _ _ _ _ _ (eq-eqb _ 94 (sym c.front.ensures ∙ c.if-front-ne94.false)) ∙ stops _ _ _ _ _ c.in_err-sign.ensures) c.from_residual.ensures.1
+    refused_by _ _ c.from_residual.result _ _ (chose _ _ _ _ _ (eq-eqb _ 94 (sym c.front.ensures ∙ c.if-front-ne94.false)) ∙ stops _ _ _ _ _ c.in_err-sign.ensures) c.from_residual.ensures.1
 
 pub returns-then-digit-lt49 : goal.returns-then-digit-lt49
 unfolding raised run

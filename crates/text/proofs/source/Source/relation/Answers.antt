@@ -4,7 +4,7 @@ use Rattle.std.proofs.lemmas.Bool.{eq-eqb, ne_eqb}
 use Rattle.grammar.specs.Formulas.{relation_of, or_equal}
 use Rattle.grammar.specs.Reader.{run}
 use Rattle.grammar.proofs.Runs.{goes_on, stops}
-use Rattle.text.proofs.Exits.{handed-on}
+use Rattle.text.proofs.Exits.{handed_on_lem}
 use Rattle.text.proofs.Steps.{chose, passed_over}
 use Rattle.grammar.specs.declared.relation.Relation.TheVariants.{Below, AtMost, Above, AtLeast}
 use Rattle.text.proofs.source.Source.relation.Goals as goal
@@ -19,7 +19,7 @@ returns-then-c-eq62 c = passed_over _ _ _ _ _ (ne_eqb _ 60 (λ e. c.if-c-eq60.fa
 
 pub returns-in_err-sign : goal.returns-in_err-sign
 unfolding relation_of
-returns-in_err-sign c = passed_over _ _ _ _ _ (ne_eqb _ 60 (λ e. c.if-c-eq60.false (c.front-c.ensures ∙ e))) ∙ passed_over _ _ _ _ _ (ne_eqb _ 62 (λ e. c.if-c-eq62.false (c.front-c.ensures ∙ e))) ∙ chose _ _ _ _ _ (eq-eqb _ 61 (sym c.front-c.ensures ∙ c.if-c-eq61.true)) ∙ stops _ _ _ _ _ c.in_err-sign.ensures ∙ handed-on c.from_residual.result _ _ c.from_residual.ensures.1
+returns-in_err-sign c = passed_over _ _ _ _ _ (ne_eqb _ 60 (λ e. c.if-c-eq60.false (c.front-c.ensures ∙ e))) ∙ passed_over _ _ _ _ _ (ne_eqb _ 62 (λ e. c.if-c-eq62.false (c.front-c.ensures ∙ e))) ∙ chose _ _ _ _ _ (eq-eqb _ 61 (sym c.front-c.ensures ∙ c.if-c-eq61.true)) ∙ stops _ _ _ _ _ c.in_err-sign.ensures ∙ handed_on_lem c.from_residual.result _ _ c.from_residual.ensures.1
 
 pub returns-then-c-eq61 : goal.returns-then-c-eq61
 unfolding relation_of run
@@ -27,7 +27,7 @@ returns-then-c-eq61 c = passed_over _ _ _ _ _ (ne_eqb _ 60 (λ e. c.if-c-eq60.fa
 
 pub returns-in_err-sign-2 : goal.returns-in_err-sign-2
 unfolding relation_of
-returns-in_err-sign-2 c = passed_over _ _ _ _ _ (ne_eqb _ 60 (λ e. c.if-c-eq60.false (c.front-c.ensures ∙ e))) ∙ passed_over _ _ _ _ _ (ne_eqb _ 62 (λ e. c.if-c-eq62.false (c.front-c.ensures ∙ e))) ∙ passed_over _ _ _ _ _ (ne_eqb _ 61 (λ e. c.if-c-eq61.false (c.front-c.ensures ∙ e))) ∙ stops _ _ _ _ _ c.in_err-sign-2.ensures ∙ handed-on c.from_residual-in_err-sign-2.result _ _ c.from_residual-in_err-sign-2.ensures.1
+returns-in_err-sign-2 c = passed_over _ _ _ _ _ (ne_eqb _ 60 (λ e. c.if-c-eq60.false (c.front-c.ensures ∙ e))) ∙ passed_over _ _ _ _ _ (ne_eqb _ 62 (λ e. c.if-c-eq62.false (c.front-c.ensures ∙ e))) ∙ passed_over _ _ _ _ _ (ne_eqb _ 61 (λ e. c.if-c-eq61.false (c.front-c.ensures ∙ e))) ∙ stops _ _ _ _ _ c.in_err-sign-2.ensures ∙ handed_on_lem c.from_residual-in_err-sign-2.result _ _ c.from_residual-in_err-sign-2.ensures.1
 
 pub returns : goal.returns
 unfolding relation_of run

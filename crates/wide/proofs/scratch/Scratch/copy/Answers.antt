@@ -5,7 +5,7 @@ use Rattle.terms.specs.Monomial.{monomial}
 use Rattle.packed.specs.StretchTerms.{stretch_terms}
 use Rattle.packed.specs.Signed.{signed}
 use Rattle.packed.proofs.Signed.{length-signed}
-use Rattle.wide.proofs.Rising.{stretch-rising, signed-rising, wider}
+use Rattle.wide.proofs.Rising.{stretch_rising, signed-rising, wider}
 use Rattle.wide.specs.Written.{monomial_in}
 use Rattle.wide.proofs.scratch.Scratch.copy.Goals as goal
 
@@ -26,4 +26,4 @@ pub returns : goal.returns
 returns c =
     let ts = signed c.args.negated (stretch_terms c.args.stretch) in
     let e = c.loop-i.invariant ∙ take_all c.loop-i.i ts (omega (arith, length-signed c.args.negated (stretch_terms c.args.stretch), c.loop-i-test.false, c.len-i-end.ensures.value)) in
-    record { value = e; rising = wider _ ts e (signed-rising c.args.negated 0 (2 ^ 19) (stretch_terms c.args.stretch) (stretch-rising c.args.stretch)) }
+    record { value = e; rising = wider _ ts e (signed-rising c.args.negated 0 (2 ^ 19) (stretch_terms c.args.stretch) (stretch_rising c.args.stretch)) }

@@ -7,7 +7,7 @@ use Rattle.packed.proofs.Lowered.{view-rising}
 use Rattle.wide.proofs.Rising.{derivative-rising, wider}
 use Rattle.wide.specs.Written.{written, monomial_in}
 use Rattle.wide.specs.Slopes.{slope_by}
-use Rattle.wide.proofs.Slopes.{slopes-none, slopes-next}
+use Rattle.wide.proofs.Slopes.{slopes_none, slopes-next}
 use Rattle.wide.proofs.scratch.Scratch.derivative.Goals as goal
 
 pub loop-i-init : goal.loop-i-init
@@ -46,5 +46,5 @@ returns c =
     let h : length (terms_in c.args.polynomial) ≤ c.loop-i.i = omega (arith, c.loop-i-test.false, c.len-i-end.ensures.value) in
     let e =
     sym (append-nil (written c.loop-i.self.front)) ∙
-    ap (λ w. written c.loop-i.self.front ++ w) (sym (ap (slopes c.args.others) (drop_of_length-le (terms_in c.args.polynomial) h) ∙ slopes-none c.args.others)) ∙ c.loop-i.invariant.0 in
+    ap (λ w. written c.loop-i.self.front ++ w) (sym (ap (slopes c.args.others) (drop_of_length-le (terms_in c.args.polynomial) h) ∙ slopes_none c.args.others)) ∙ c.loop-i.invariant.0 in
     record { value = e; rising = wider _ _ e (derivative-rising c.args.others (2 ^ 19) (terms_in c.args.polynomial) (view-rising c.args.polynomial)) }

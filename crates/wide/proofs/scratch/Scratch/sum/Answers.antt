@@ -6,13 +6,13 @@ use Rattle.packed.specs.Terms.{terms_in}
 use Rattle.terms.proofs.Rises.{rising-add}
 use Rattle.packed.proofs.Lowered.{view-rising}
 use Rattle.wide.proofs.Rising.{wider}
-use Rattle.wide.proofs.Multiplying.{Factor, factors-addable, scaled-one}
+use Rattle.wide.proofs.Multiplying.{Factor, factors_addable, scaled-one}
 use Rattle.wide.proofs.Factors.{view-factor}
 use Rattle.wide.proofs.scratch.Scratch.sum.Goals as goal
 
 pub add_scaled-requires : goal.add_scaled-requires
 add_scaled-requires c =
-    factors-addable (monomial 0 (pos 1)) (terms_in c.args.left) _ (omega arith) (omega arith) (view-factor c.args.left)
+    factors_addable (monomial 0 (pos 1)) (terms_in c.args.left) _ (omega arith) (omega arith) (view-factor c.args.left)
     (subst Factor (sym (c.copy.ensures.value ∙ c.whole.ensures)) (view-factor c.args.right))
 
 pub returns : goal.returns

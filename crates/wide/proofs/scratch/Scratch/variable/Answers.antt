@@ -1,8 +1,8 @@
 -- The variable's digit is one.
 use Rattle.std.proofs.Common.{◌≡◌, suc, ◌-◌, ◌^◌, [], ◌∷◌, ◌++◌, pos, sym, ap, ◌∙◌, arith}
 use Rattle.terms.specs.Monomial.{monomial}
-use Rattle.wide.proofs.Rising.{one-rising, none-rising}
-use Rattle.wide.proofs.Slopes.{variable-there, variable-none}
+use Rattle.wide.proofs.Rising.{one-rising, none_rising}
+use Rattle.wide.proofs.Slopes.{variable-there, variable_none}
 use Rattle.wide.proofs.scratch.Scratch.variable.Goals as goal
 
 pub returns-then-variable-variables : goal.returns-then-variable-variables
@@ -20,6 +20,6 @@ returns-then-variable-variables c =
 pub returns-else-variable-variables : goal.returns-else-variable-variables
 returns-else-variable-variables c =
     record {
-      value = c.clear.ensures ∙ sym (variable-none c.args.variables c.args.variable c.if-variable-variables.false);
-      rising = none-rising _ c.clear.ensures;
+      value = c.clear.ensures ∙ sym (variable_none c.args.variables c.args.variable c.if-variable-variables.false);
+      rising = none_rising _ c.clear.ensures;
     }

@@ -1,6 +1,6 @@
 -- The list is copied a monomial at a time.
 use Rattle.std.proofs.Common.{◌+◌, ◌^◌, ◌<◌, ◌≤◌, [], ◌∷◌, ◌++◌, length, drop, sym, ap, ◌∙◌, append_assoc, append-nil, arith, length-append, length-drop, drop_of_length-le}
-use Rattle.packed.proofs.Places.{key-at}
+use Rattle.packed.proofs.Places.{key_at}
 use Rattle.wide.specs.Written.{written}
 use Rattle.wide.proofs.Merging.{at_place}
 use Rattle.wide.proofs.wide.Wide.append.Goals as goal
@@ -18,7 +18,7 @@ push-requires c =
         length-drop c.args.from (written c.args.list.now),
         c.requires.room,
       ),
-      omega (arith, ap (λ m. m.key) c.term.ensures, key-at (2 ^ 63) (written c.args.list.now) c.loop-i.i c.requires.keys i),
+      omega (arith, ap (λ m. m.key) c.term.ensures, key_at (2 ^ 63) (written c.args.list.now) c.loop-i.i c.requires.keys i),
     )
 
 pub loop-i-preserved : goal.loop-i-preserved

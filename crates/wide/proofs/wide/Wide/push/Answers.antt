@@ -3,7 +3,7 @@ use Rattle.std.proofs.Common.{[], ◌∷◌, ◌++◌, nat_abs, sym, ap, ◌∙�
 use Rattle.std.proofs.lemmas.Int.{to_z-of_z, to_z_pos}
 use Rattle.terms.specs.Monomial.{monomial}
 use Rattle.wide.specs.Written.{written}
-use Rattle.wide.proofs.Pairs.{written-more}
+use Rattle.wide.proofs.Pairs.{written_more}
 use Rattle.wide.proofs.Written.{written-length}
 use Rattle.wide.proofs.wide.Wide.push.Goals as goal
 
@@ -24,6 +24,6 @@ pub returns : goal.returns
 returns c =
     let w = c.args.self.now in
     let f : SFits w64 c.args.term.coefficient = search rules in
-    written-more w.len w.keys.now w.coefficients.now c.args.term.key _ (to_z w64 c.args.term.key) (w.enough ∙ sym w.alike)
+    written_more w.len w.keys.now w.coefficients.now c.args.term.key _ (to_z w64 c.args.term.key) (w.enough ∙ sym w.alike)
     (omega (arith, written-length w, c.requires.0, w.enough)) (ap nat_abs (to_z_pos w64 c.args.term.key c.requires.1)) ∙
     ap (λ x. written w ++ monomial c.args.term.key x ∷ []) (to_z-of_z w64 c.args.term.coefficient f)
