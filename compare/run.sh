@@ -10,7 +10,7 @@ if [ $# -lt 2 ] || [ $# -gt 3 ]; then
 fi
 seed=$1
 count=$2
-program=${3:-$here/../target/bin/judge}
+program=${3:-$here/../crates/judge/out/judge}
 [ -x "$program" ] || { echo "no program at $program" >&2; exit 2; }
 
 cargo build --release --quiet --manifest-path "$here/Cargo.toml"

@@ -1,7 +1,7 @@
 // What is answered over all the rows of a chain's outermost table, to "some" or to "every".
 ghost use Rattle.std.specs.Prelude.{◌≡◌, ◌≤◌, List, length};
 ghost use Rattle.field.specs.declared.sign.Sign.{Sign as RowSign};
-ghost use Rattle.stream.specs.Chain.{run as chainRun};
+ghost use Rattle.stream.specs.Chain.{run as chain_run};
 ghost use Rattle.stream.specs.Fold.{before as before_rows, joined};
 ghost use Rattle.stream.specs.Resume.{answered};
 ghost use Rattle.row_stream.specs.declared.answer.Answer.{Answer as RowAnswer};
@@ -52,7 +52,7 @@ pub fn over_rows<J: Judge + Drop>(
     row: &[Sign],
 ) -> Answer
     requires { (length row.now ≤ 63) × (length stages.now ≡ length cells.old) }
-    ensures { tree_of result ≡ answered (λ u. u) (chainRun (λ a s. joined all a (tree_of (J.Judge.says judge s))) (stages_of stages.now) (before_rows all) row.now) }
+    ensures { tree_of result ≡ answered (λ u. u) (chain_run (λ a s. joined all a (tree_of (J.Judge.says judge s))) (stages_of stages.now) (before_rows all) row.now) }
 {
     let mut tally = Tally {
         judge,
