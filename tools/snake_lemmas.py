@@ -10,13 +10,11 @@ file that uses the old one, the lemma gets _lem. Where two would fall together t
 """
 
 import collections
-import os
 import re
 import sys
 
-ROOT = "crates"
-WORD = r"[^\s(){}\[\],;:.⌜⌝«»\"`]+"
-DEFINED = re.compile(r"^(\s*)((?:pub |abbrev |unfoldable )*)(data |record |ruleset )?([^\s:(){}]+)\s*((?:[({].*)?):(?!:)(.*)$")
+from snake_names import DEFINED, WORD, files
+
 MADE = re.compile(r"^(returns|loop|invariant|decreases|if|then|else|in|overflow|bounds|slice_bounds|nonzero)-|goal\.")
 CHAIN = re.compile(r"(?<![^\s(){}\[\],;:⌜⌝«»\"`.])%s(?:\.%s)*" % (WORD, WORD))
 OF_STD = re.compile(r"^use (?:Rattle\.std|Rattle\.core|mathlib|borrow|denote|lib|native|Prim)\b[^{\n]*\{([^}]*)\}", re.M)
@@ -24,14 +22,6 @@ OF_STD = re.compile(r"^use (?:Rattle\.std|Rattle\.core|mathlib|borrow|denote|lib
 
 # Names of definitions that in a lemma's name are plain words.
 PLAIN = {"at", "end", "first", "leading", "left", "no", "not", "of", "real", "right", "row", "table", "to", "zero"}
-
-
-def files(endings):
-    for folder, dirs, names in os.walk(ROOT):
-        dirs[:] = sorted(d for d in dirs if d != "out")
-        for name in sorted(names):
-            if name.endswith(endings):
-                yield os.path.join(folder, name)
 
 
 def read(path):
