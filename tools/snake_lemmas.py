@@ -3,9 +3,9 @@
 
 usage: python3 tools/snake_lemmas.py [--dry]     at the top of the repository
 
-A dash joins two names, as value-sum, or a type to what is said of it, as Depth-constant; a plain word is added with an underscore, as
+A dash joins two names, as sign-mul_of, or a type to what is said of it, as Depth-constant; a plain word is added with an underscore, as
 refused_for_good. So each dash of a name that this repository defines becomes an underscore, unless what stands before it begins with a capital,
-or both sides are names of definitions. A theorem's fields have underscores alone. Where the new name stands already, for a function or in a
+or both sides are names of definitions. In a field of a theorem that no type begins, underscores alone. Where the new name stands already, for a function or in a
 file that uses the old one, the lemma gets _lem. Where two would fall together the old names stay, and a line says so. Names that the checker makes for goals and steps are not touched.
 """
 
@@ -37,7 +37,8 @@ def defined(path):
         if line.strip() and (record is None or depth <= record):
             record = depth if re.match(r"\s*(pub )?record ", line) else None
         m = DEFINED.match(line)
-        if m and not line.lstrip().startswith(("--", "use ", "import ")) and not MADE.search(m.group(4)) and not m.group(6).strip().startswith("goal."):
+        made = path.endswith(("/Answers.antt", "/Invariants.antt")) and MADE.search(m.group(4)) if m else None
+        if m and not line.lstrip().startswith(("--", "use ", "import ")) and not made and not m.group(6).strip().startswith("goal."):
             yield m.group(4), record is not None and depth > record
 
 
@@ -54,12 +55,12 @@ def words():
     return names - PLAIN
 
 
-def new_name(name, names):
+def new_name(name, names, field):
     parts = name.split("-")
     out = parts[0]
     before = parts[0]
     for part in parts[1:]:
-        joined = "-" if before[:1].isupper() or (before in names and part in names) else "_"
+        joined = "-" if before[:1].isupper() or (not field and before in names and part in names) else "_"
         out += joined + part
         before = part
     return out
@@ -88,7 +89,7 @@ def main():
                 olds.add(name)
                 if inner:
                     fields.add(name)
-    names = {n: n.replace("-", "_") if n in fields else new_name(n, taken) for n in olds}
+    names = {n: new_name(n, taken, n in fields) for n in olds}
     texts = {path: read(path) for path in files((".antt", ".rt", ".edit"))}
     tokens = {path: set(re.findall(WORD, text)) for path, text in texts.items()}
     stands = lambda old, new: new in taken or any(old in t and new in t for t in tokens.values())

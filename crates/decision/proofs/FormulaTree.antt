@@ -8,7 +8,7 @@ use Rattle.poly.specs.Poly.{Poly}
 use Rattle.poly.specs.Arithmetic.{constant, variable, sum, product}
 use Rattle.poly.specs.Modest.{modest, Checked, TooBig, Fine, checked, on_both, term_poly}
 use Rattle.poly.specs.Value.{Depth}
-use Rattle.poly.proofs.Depth.{Depth_constant, Depth_variable, Depth_sum, Depth_product}
+use Rattle.poly.proofs.Depth.{Depth-constant, Depth-variable, Depth-sum, Depth-product}
 use Rattle.poly.proofs.Terms.{value_term}
 use Rattle.sign_table.specs.Tree.{Tree, Yes, No, by_sign}
 use Rattle.sign_table.specs.Meaning.{Says, YesOrNo, DepthTree}
@@ -36,13 +36,13 @@ Depth-on_both n g h (Fine p) (Fine q) da db = h p q da db
 
 Depth-term_poly : (n : ℕ) (t : Term) → DepthChecked n (term_poly n t)
 unfolding term_poly
-Depth-term_poly n (Var i) = Depth-checked n (variable n i) (Depth_variable n i)
-Depth-term_poly n (Num z) = Depth-checked n (constant n z) (Depth_constant n z)
+Depth-term_poly n (Var i) = Depth-checked n (variable n i) (Depth-variable n i)
+Depth-term_poly n (Num z) = Depth-checked n (constant n z) (Depth-constant n z)
 Depth-term_poly n (Sum s t) =
-    Depth-on_both n (λ p q. checked n (sum n p q)) (λ p q dp dq. Depth-checked n (sum n p q) (Depth_sum n p q dp dq))
+    Depth-on_both n (λ p q. checked n (sum n p q)) (λ p q dp dq. Depth-checked n (sum n p q) (Depth-sum n p q dp dq))
     (term_poly n s) (term_poly n t) (Depth-term_poly n s) (Depth-term_poly n t)
 Depth-term_poly n (Product s t) =
-    Depth-on_both n (λ p q. checked n (product n p q)) (λ p q dp dq. Depth-checked n (product n p q) (Depth_product n p q dp dq))
+    Depth-on_both n (λ p q. checked n (product n p q)) (λ p q dp dq. Depth-checked n (product n p q) (Depth-product n p q dp dq))
     (term_poly n s) (term_poly n t) (Depth-term_poly n s) (Depth-term_poly n t)
 
 Depth-asks : (n : ℕ) (k : Checked) (a b c : Tree) → DepthChecked n k → DepthTree n a → DepthTree n b → DepthTree n c → DepthTree n (asks k a b c)

@@ -54,8 +54,8 @@ module _ (n : ℕ) (ps : List Poly) (t : Tree) where
   abbrev pub InEvery : Tree → List (List Sign) → Type 0
   InEvery what rows = (row : List Sign) → Member row rows → on_row n ps row t ≡ what
 
-  in-later : (what : Tree) (row : List Sign) (rows : List (List Sign)) → InSome what rows → InSome what (row ∷ rows)
-  in-later what row rows h = (h.0, inr h.1, h.2)
+  in_later : (what : Tree) (row : List Sign) (rows : List (List Sign)) → InSome what rows → InSome what (row ∷ rows)
+  in_later what row rows h = (h.0, inr h.1, h.2)
 
   in_both : (what : Tree) (row : List Sign) (rows : List (List Sign)) → on_row n ps row t ≡ what → InEvery what rows → InEvery what (row ∷ rows)
   in_both what row rows h k other m = ⊎_elim (λ q. ap (λ r. on_row n ps r t) q ∙ h) (k other) m
@@ -70,7 +70,7 @@ module _ (n : ℕ) (ps : List Poly) (t : Tree) where
   pub some_yes : (rows : List (List Sign)) → some n ps t rows ≡ Yes → InSome Yes rows
   unfolding some
   some_yes [] h = yes_not_no (sym h)
-  some_yes (row ∷ rows) h = ⊎_elim (λ q. (row, inl refl, q)) (λ q. in-later Yes row rows (some_yes rows q)) (or_yes (on_row n ps row t) (some n ps t rows) h)
+  some_yes (row ∷ rows) h = ⊎_elim (λ q. (row, inl refl, q)) (λ q. in_later Yes row rows (some_yes rows q)) (or_yes (on_row n ps row t) (some n ps t rows) h)
 
   pub some_no : (rows : List (List Sign)) → some n ps t rows ≡ No → InEvery No rows
   unfolding some
@@ -92,4 +92,4 @@ module _ (n : ℕ) (ps : List Poly) (t : Tree) where
   every_no (row ∷ rows) h =
       let here = on_row n ps row t in
       let later = every n ps t rows in
-      ⊎_elim (λ q. (row, inl refl, not_yes here q)) (λ q. in-later No row rows (every_no rows (not_yes later q))) (or_yes (not_tree here) (not_tree later) (not_no (or_tree (not_tree here) (not_tree later)) h))
+      ⊎_elim (λ q. (row, inl refl, not_yes here q)) (λ q. in_later No row rows (every_no rows (not_yes later q))) (or_yes (not_tree here) (not_tree later) (not_no (or_tree (not_tree here) (not_tree later)) h))

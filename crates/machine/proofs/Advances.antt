@@ -15,7 +15,7 @@ use Rattle.machine.specs.Theorems.{Advances, nothing_more, all_lefts, StacksMirr
 use Rattle.machine.proofs.Denotes.{step_keeps}
 use Rattle.machine.proofs.Ends.{cost_positive, step_falls}
 use Rattle.machine.proofs.Counting.{resume-nothing, todo_step, collected_step}
-use Rattle.machine.proofs.StackSteps.{Mirrors, passes_zero, passes_known, asks, gives_up_looking, answers, gives_up_dividing, gives_up_depth, enters, returns-above, returns-at, returns-below, begins}
+use Rattle.machine.proofs.StackSteps.{Mirrors, passes_zero, passes_known, asks, gives_up_looking, answers, gives_up_dividing, gives_up_depth, enters, returns_above, returns_at, returns_below, begins}
 use Rattle.machine.proofs.Bounds.{bounds, room_below, reals_count, divisors_count}
 
 advance : (run : Run) (n : ℕ) (before : Memory) (s : Stacks) (after : Memory) (t : Stacks) (asked : ℕ) (collected : List Poly → List Poly) → 0 < work (state_of before s) →
@@ -92,15 +92,15 @@ stacks_mirror = record {
   gives_up_depth = λ run n mem m k sound none l ls real e. quiet run n mem m k mem _ (settled-asks n mem m k none) (gives_up_depth run n mem m k sound none l ls real e);
   enters = λ run n mem new m k sound agree none l ls real deep fine frame fact size ps p untouched.
       quiet run n mem m k new _ (settled-asks n mem m k none) (enters run n mem m k sound none l ls real new agree deep fine frame fact size ps p untouched);
-  returns-above = λ run n mem new t m k sound was agree now fact.
+  returns_above = λ run n mem new t m k sound was agree now fact.
       advance run n mem (Holding t (suc k)) new _ 0 nothing_more (holding_work mem t k) refl (holding_collects n mem t k m Above nothing_more was (λ qs seen. refl))
-      (returns-above run n mem new t m k sound was agree now fact);
-  returns-at = λ run n mem new t above m k sound was agree now fact p left.
+      (returns_above run n mem new t m k sound was agree now fact);
+  returns_at = λ run n mem new t above m k sound was agree now fact p left.
       advance run n mem (Holding t (suc k)) new _ 0 nothing_more (holding_work mem t k) refl (holding_collects n mem t k m (At above) nothing_more was (λ qs seen. refl))
-      (returns-at run n mem new t above m k sound was agree now fact p left);
-  returns-below = λ run n mem t at above m k sound was.
+      (returns_at run n mem new t above m k sound was agree now fact p left);
+  returns_below = λ run n mem t at above m k sound was.
       advance run n mem (Holding t (suc k)) mem _ 0 (noted n (leading n (current_of m))) (holding_work mem t k) refl
-      (holding_collects n mem t k m (Below at above) (noted n (leading n (current_of m))) was (λ qs seen. refl)) (returns-below run n mem t at above m k sound was);
+      (holding_collects n mem t k m (Below at above) (noted n (leading n (current_of m))) was (λ qs seen. refl)) (returns_below run n mem t at above m k sound was);
   bounds = bounds;
   room_below = room_below;
   reals_count = reals_count;

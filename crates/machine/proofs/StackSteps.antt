@@ -335,22 +335,22 @@ returns_to run n mem new t m k old next p s goes sound was agree now fact left =
           (ordered_agrees mem new m k held.1 agree),
     )
 
-pub returns-above : (run : Run) (n : ℕ) (mem new : Memory) (t : Tree) (m : Marks) (k : ℕ) → Sound mem (Holding t (suc k)) →
+pub returns_above : (run : Run) (n : ℕ) (mem new : Memory) (t : Tree) (m : Marks) (k : ℕ) → Sound mem (Holding t (suc k)) →
     mem.question_at k ≡ Pending m Above → Agree mem new m k → new.question_at k ≡ Pending m (At t) → new.fact_at (facts_end m) ≡ record { poly = leading n (current_of m); sign = Zero } →
     Mirrors run n mem (Holding t (suc k)) new (Facing (shortened (with_one_fact m)) (suc k))
-returns-above run n mem new t m k sound was agree now fact = returns_to run n mem new t m k Above (At t) (current_of m) Zero (λ phase qs. refl) sound was agree now fact tt
+returns_above run n mem new t m k sound was agree now fact = returns_to run n mem new t m k Above (At t) (current_of m) Zero (λ phase qs. refl) sound was agree now fact tt
 
-pub returns-at : (run : Run) (n : ℕ) (mem new : Memory) (t above : Tree) (m : Marks) (k : ℕ) → Sound mem (Holding t (suc k)) →
+pub returns_at : (run : Run) (n : ℕ) (mem new : Memory) (t above : Tree) (m : Marks) (k : ℕ) → Sound mem (Holding t (suc k)) →
     mem.question_at k ≡ Pending m (At above) → Agree mem new m k → new.question_at k ≡ Pending m (Below t above) →
     new.fact_at (facts_end m) ≡ record { poly = leading n (current_of m); sign = Neg } → (p : Poly) → LeftWritten new m Neg p →
     Mirrors run n mem (Holding t (suc k)) new (Facing (signed p Neg (with_one_fact m)) (suc k))
-returns-at run n mem new t above m k sound was agree now fact p left = returns_to run n mem new t m k (At above) (Below t above) p Neg (λ phase qs. refl) sound was agree now fact left
+returns_at run n mem new t above m k sound was agree now fact p left = returns_to run n mem new t m k (At above) (Below t above) p Neg (λ phase qs. refl) sound was agree now fact left
 
-pub returns-below : (run : Run) (n : ℕ) (mem : Memory) (t at above : Tree) (m : Marks) (k : ℕ) → Sound mem (Holding t (suc k)) →
+pub returns_below : (run : Run) (n : ℕ) (mem : Memory) (t at above : Tree) (m : Marks) (k : ℕ) → Sound mem (Holding t (suc k)) →
     mem.question_at k ≡ Pending m (Below at above) →
     Mirrors run n mem (Holding t (suc k)) mem (Holding (run.join (leading n (current_of m)) t at above) k)
 unfolding back
-returns-below run n mem t at above m k sound was =
+returns_below run n mem t at above m k sound was =
     (sym (ap (λ c. step run n (Returning t (question_of mem c ∷ questions_of mem k))) was), ordered_open mem (marks_of (mem.question_at k)) GivenUp k sound.1)
 
 pub begins : (mem : Memory) (ps : List Poly) (p : Poly) (size : ℕ) → polys_forth mem 0 0 size ≡ take 64 ps → Untouched mem (Marked 63 0 0 size p 0 0) →

@@ -146,15 +146,15 @@ pub record StacksMirror : Type 0 where
       (size : ℕ) → polys_forth new (lefts_end m) 0 size ≡ take 64 (polys_below n top others) → (p : Poly) → Untouched new (entered p size m) →
       Advances run n mem (Facing m k) new (Facing (entered p size m) k) 0 nothing_more
   -- a branch of the last question is finished
-  pub returns-above : (run : Run) (n : ℕ) (mem new : Memory) (t : Tree) (m : Marks) (k : ℕ) → Sound mem (Holding t (suc k)) →
+  pub returns_above : (run : Run) (n : ℕ) (mem new : Memory) (t : Tree) (m : Marks) (k : ℕ) → Sound mem (Holding t (suc k)) →
       mem.question_at k ≡ Pending m Above → Agree mem new m k → new.question_at k ≡ Pending m (At t) →
       new.fact_at (facts_end m) ≡ record { poly = leading n (current_of m); sign = Zero } →
       Advances run n mem (Holding t (suc k)) new (Facing (shortened (with_one_fact m)) (suc k)) 0 nothing_more
-  pub returns-at : (run : Run) (n : ℕ) (mem new : Memory) (t above : Tree) (m : Marks) (k : ℕ) → Sound mem (Holding t (suc k)) →
+  pub returns_at : (run : Run) (n : ℕ) (mem new : Memory) (t above : Tree) (m : Marks) (k : ℕ) → Sound mem (Holding t (suc k)) →
       mem.question_at k ≡ Pending m (At above) → Agree mem new m k → new.question_at k ≡ Pending m (Below t above) →
       new.fact_at (facts_end m) ≡ record { poly = leading n (current_of m); sign = Neg } → (p : Poly) → LeftWritten new m Neg p →
       Advances run n mem (Holding t (suc k)) new (Facing (signed p Neg (with_one_fact m)) (suc k)) 0 nothing_more
-  pub returns-below : (run : Run) (n : ℕ) (mem : Memory) (t at above : Tree) (m : Marks) (k : ℕ) → Sound mem (Holding t (suc k)) →
+  pub returns_below : (run : Run) (n : ℕ) (mem : Memory) (t at above : Tree) (m : Marks) (k : ℕ) → Sound mem (Holding t (suc k)) →
       mem.question_at k ≡ Pending m (Below at above) →
       Advances run n mem (Holding t (suc k)) mem (Holding (run.join (leading n (current_of m)) t at above) k) 0 (noted n (leading n (current_of m)))
   -- how long the arrays get, and how many polynomials of a table can be real

@@ -56,21 +56,21 @@ Depths-trim n (c ∷ cs) d = Depths-cond n (is_zero c && all_zero cs) [] (c ∷ 
 pub Depth-trimmed : (n : ℕ) (cs : List Poly) → Depths n cs → Depth (suc n) (from_coefs (trim cs))
 Depth-trimmed n cs d = Depth-from_coefs n (trim cs) (Depths-trim n cs d)
 
-pub Depth_zero_poly : (n : ℕ) → Depth n (zero_poly n)
+pub Depth-zero_poly : (n : ℕ) → Depth n (zero_poly n)
 unfolding Depth
-Depth_zero_poly zero = tt
-Depth_zero_poly (suc n) = tt
+Depth-zero_poly zero = tt
+Depth-zero_poly (suc n) = tt
 
-pub Depth_constant : (n : ℕ) (z : ℤ) → Depth n (constant n z)
+pub Depth-constant : (n : ℕ) (z : ℤ) → Depth n (constant n z)
 unfolding Depth constant
-Depth_constant zero z = tt
-Depth_constant (suc n) z = Depth-trimmed n (constant n z ∷ []) (Depth_constant n z, tt)
+Depth-constant zero z = tt
+Depth-constant (suc n) z = Depth-trimmed n (constant n z ∷ []) (Depth-constant n z, tt)
 
-pub Depth_variable : (n i : ℕ) → Depth n (variable n i)
+pub Depth-variable : (n i : ℕ) → Depth n (variable n i)
 unfolding Depth variable
-Depth_variable zero i = tt
-Depth_variable (suc n) zero = Depth-from_coefs n (zero_poly n ∷ constant n (pos 1) ∷ []) (Depth_zero_poly n, (Depth_constant n (pos 1), tt))
-Depth_variable (suc n) (suc i) = Depth-trimmed n (variable n i ∷ []) (Depth_variable n i, tt)
+Depth-variable zero i = tt
+Depth-variable (suc n) zero = Depth-from_coefs n (zero_poly n ∷ constant n (pos 1) ∷ []) (Depth-zero_poly n, (Depth-constant n (pos 1), tt))
+Depth-variable (suc n) (suc i) = Depth-trimmed n (variable n i ∷ []) (Depth-variable n i, tt)
 
 Depths-sum_by : (n : ℕ) (f : Poly → Poly → Poly) → ((a b : Poly) → Depth n a → Depth n b → Depth n (f a b)) → (p q : List Poly) → Depths n p → Depths n q → Depths n (sum_by f p q)
 unfolding sum_by
@@ -78,10 +78,10 @@ Depths-sum_by n f h [] bs d k = k
 Depths-sum_by n f h (a ∷ p) [] d k = d
 Depths-sum_by n f h (a ∷ p) (b ∷ q) d k = (h a b d.0 k.0, Depths-sum_by n f h p q d.1 k.1)
 
-pub Depth_sum : (n : ℕ) (p q : Poly) → Depth n p → Depth n q → Depth n (sum n p q)
+pub Depth-sum : (n : ℕ) (p q : Poly) → Depth n p → Depth n q → Depth n (sum n p q)
 unfolding Depth sum
-Depth_sum zero p q d k = tt
-Depth_sum (suc n) p q d k = Depth-trimmed n (sum_by (sum n) (coefs p) (coefs q)) (Depths-sum_by n (sum n) (Depth_sum n) (coefs p) (coefs q) (Depths-coefs n p d) (Depths-coefs n q k))
+Depth-sum zero p q d k = tt
+Depth-sum (suc n) p q d k = Depth-trimmed n (sum_by (sum n) (coefs p) (coefs q)) (Depths-sum_by n (sum n) (Depth-sum n) (coefs p) (coefs q) (Depths-coefs n p d) (Depths-coefs n q k))
 
 pub Depths-map : (n : ℕ) (g : Poly → Poly) → ((a : Poly) → Depth n a → Depth n (g a)) → (cs : List Poly) → Depths n cs → Depths n (map_poly g cs)
 unfolding map_poly
@@ -93,25 +93,25 @@ unfolding product_by
 Depths-product_by n g h [] q d k = tt
 Depths-product_by n g h (a ∷ p) q d k =
     let rest = Depths-product_by n g h p q d.1 k in
-    Depths-sum_by n (sum n) (Depth_sum n) _ _ (Depths-map n (g a) (λ b. h a b d.0) q k) (search Depth_zero_poly)
+    Depths-sum_by n (sum n) (Depth-sum n) _ _ (Depths-map n (g a) (λ b. h a b d.0) q k) (search Depth-zero_poly)
 
-pub Depth_product : (n : ℕ) (p q : Poly) → Depth n p → Depth n q → Depth n (product n p q)
+pub Depth-product : (n : ℕ) (p q : Poly) → Depth n p → Depth n q → Depth n (product n p q)
 unfolding Depth product
-Depth_product zero p q d k = tt
-Depth_product (suc n) p q d k = Depth-trimmed n (product_by (sum n) (product n) (zero_poly n) (coefs p) (coefs q)) (Depths-product_by n (product n) (Depth_product n) (coefs p) (coefs q) (Depths-coefs n p d) (Depths-coefs n q k))
+Depth-product zero p q d k = tt
+Depth-product (suc n) p q d k = Depth-trimmed n (product_by (sum n) (product n) (zero_poly n) (coefs p) (coefs q)) (Depths-product_by n (product n) (Depth-product n) (coefs p) (coefs q) (Depths-coefs n p d) (Depths-coefs n q k))
 
-pub Depth_negative : (n : ℕ) (p : Poly) → Depth n p → Depth n (negative n p)
+pub Depth-negative : (n : ℕ) (p : Poly) → Depth n p → Depth n (negative n p)
 unfolding Depth negative
-Depth_negative zero p d = tt
-Depth_negative (suc n) p d = Depth-from_coefs n (map_poly (negative n) (coefs p)) (Depths-map n (negative n) (Depth_negative n) (coefs p) (Depths-coefs n p d))
+Depth-negative zero p d = tt
+Depth-negative (suc n) p d = Depth-from_coefs n (map_poly (negative n) (coefs p)) (Depths-map n (negative n) (Depth-negative n) (coefs p) (Depths-coefs n p d))
 
 Depth-last_or : (n : ℕ) (c : Poly) (cs : List Poly) → Depth n c → Depths n cs → Depth n (last_or c cs)
 unfolding last_or
 Depth-last_or n c [] h d = h
 Depth-last_or n c (b ∷ cs) h d = Depth-last_or n b cs d.0 d.1
 
-pub Depth_leading : (n : ℕ) (p : Poly) → Depth (suc n) p → Depth n (leading n p)
-Depth_leading n p d = Depth-last_or n (zero_poly n) (coefs p) (Depth_zero_poly n) (Depths-coefs n p d)
+pub Depth-leading : (n : ℕ) (p : Poly) → Depth (suc n) p → Depth n (leading n p)
+Depth-leading n p d = Depth-last_or n (zero_poly n) (coefs p) (Depth-zero_poly n) (Depths-coefs n p d)
 
 Depths-without_last : (n : ℕ) (cs : List Poly) → Depths n cs → Depths n (without_last cs)
 unfolding without_last
@@ -119,8 +119,8 @@ Depths-without_last n [] d = tt
 Depths-without_last n (c ∷ []) d = tt
 Depths-without_last n (c ∷ b ∷ cs) d = (d.0, Depths-without_last n (b ∷ cs) d.1)
 
-pub Depth_without_leading : (n : ℕ) (p : Poly) → Depth (suc n) p → Depth (suc n) (without_leading p)
-Depth_without_leading n p d = Depth-trimmed n (without_last (coefs p)) (Depths-without_last n (coefs p) (Depths-coefs n p d))
+pub Depth-without_leading : (n : ℕ) (p : Poly) → Depth (suc n) p → Depth (suc n) (without_leading p)
+Depth-without_leading n p d = Depth-trimmed n (without_last (coefs p)) (Depths-without_last n (coefs p) (Depths-coefs n p d))
 
 Depths-without_first : (n : ℕ) (cs : List Poly) → Depths n cs → Depths n (without_first cs)
 Depths-without_first n [] d = tt
@@ -129,24 +129,24 @@ Depths-without_first n (c ∷ cs) d = d.1
 Depths-scaled : (n k : ℕ) (cs : List Poly) → Depths n cs → Depths n (scaled n k cs)
 unfolding scaled
 Depths-scaled n k [] d = tt
-Depths-scaled n k (c ∷ cs) d = let first = d.0 in (search (Depth_product, Depth_constant), Depths-scaled n (k + 1) cs d.1)
+Depths-scaled n k (c ∷ cs) d = let first = d.0 in (search (Depth-product, Depth-constant), Depths-scaled n (k + 1) cs d.1)
 
-pub Depth_derivative : (n : ℕ) (p : Poly) → Depth (suc n) p → Depth (suc n) (derivative n p)
-Depth_derivative n p d = Depth-trimmed n (scaled n 1 (without_first (coefs p))) (Depths-scaled n 1 (without_first (coefs p)) (Depths-without_first n (coefs p) (Depths-coefs n p d)))
+pub Depth-derivative : (n : ℕ) (p : Poly) → Depth (suc n) p → Depth (suc n) (derivative n p)
+Depth-derivative n p d = Depth-trimmed n (scaled n 1 (without_first (coefs p))) (Depths-scaled n 1 (without_first (coefs p)) (Depths-without_first n (coefs p) (Depths-coefs n p d)))
 
 pub Depths-shifted : (n k : ℕ) (cs : List Poly) → Depths n cs → Depths n (shifted n k cs)
 unfolding shifted
 Depths-shifted n zero cs d = d
-Depths-shifted n (suc k) cs d = (Depth_zero_poly n, Depths-shifted n k cs d)
+Depths-shifted n (suc k) cs d = (Depth-zero_poly n, Depths-shifted n k cs d)
 
 -- a list of coefficients, each times c
 pub Depth-times : (n : ℕ) (c : Poly) (cs : List Poly) → Depth n c → Depths n cs → Depth (suc n) (from_coefs (trim (map_poly (product n c) cs)))
-Depth-times n c cs h d = Depth-trimmed n (map_poly (product n c) cs) (Depths-map n (product n c) (λ b. Depth_product n c b h) cs d)
+Depth-times n c cs h d = Depth-trimmed n (map_poly (product n c) cs) (Depths-map n (product n c) (λ b. Depth-product n c b h) cs d)
 
 pub Depth-division_step : (n : ℕ) (p s : Poly) → Depth (suc n) p → Depth (suc n) s → Depth (suc n) (division_step n p s)
 Depth-division_step n p s d k =
-    Depth_sum (suc n) _ _ (Depth-times n (leading n p) (coefs s) (Depth_leading n p d) (Depths-coefs n s k))
-    (Depth_negative (suc n) _ (Depth-times n (leading n s) _ (Depth_leading n s k) (Depths-shifted n _ (coefs p) (Depths-coefs n p d))))
+    Depth-sum (suc n) _ _ (Depth-times n (leading n p) (coefs s) (Depth-leading n p d) (Depths-coefs n s k))
+    (Depth-negative (suc n) _ (Depth-times n (leading n s) _ (Depth-leading n s k) (Depths-shifted n _ (coefs p) (Depths-coefs n p d))))
 
 pub Depth-divide : (fuel n : ℕ) (p s : Poly) (k : ℕ) → Depth (suc n) p → Depth (suc n) s → Depth (suc n) (divide fuel n p s k).rest
 unfolding divide
@@ -161,13 +161,13 @@ Depth-divide (suc fuel) n p s k d h =
     stops false false g = h
 
 Depth-exchanged : (n : ℕ) (b : Bool) (h : Sign) (r : Poly) → Depth (suc n) r → Depth (suc n) (exchanged n b h r)
-Depth-exchanged n true Neg r d = search Depth_negative
-Depth-exchanged n true Zero r d = search Depth_negative
-Depth-exchanged n true Pos r d = search Depth_negative
-Depth-exchanged n false h r d = search Depth_negative
+Depth-exchanged n true Neg r d = search Depth-negative
+Depth-exchanged n true Zero r d = search Depth-negative
+Depth-exchanged n true Pos r d = search Depth-negative
+Depth-exchanged n false h r d = search Depth-negative
 
-pub Depth_remainder : (n : ℕ) (h : Sign) (p s r : Poly) → Depth (suc n) p → Depth (suc n) s → remainder n h p s ≡ Fine r → Depth (suc n) r
-Depth_remainder n h p s r d k =
+pub Depth-remainder : (n : ℕ) (h : Sign) (p s r : Poly) → Depth (suc n) p → Depth (suc n) s → remainder n h p s ≡ Fine r → Depth (suc n) r
+Depth-remainder n h p s r d k =
     let v = divide (length (coefs s) + 1) n p s 0 in
     kept v.good (exchanged n (odd v.steps) h v.rest) (Depth-exchanged n (odd v.steps) h v.rest (Depth-divide (length (coefs s) + 1) n p s 0 d k))
   where

@@ -12,7 +12,7 @@ use Rattle.field.proofs.Whole.{integer_add, integer_neg, sign_integer}
 use Rattle.poly.specs.Poly.{Poly, coefs, the_number, is_zero_number}
 use Rattle.poly.specs.Arithmetic.{negative, same_by, same}
 use Rattle.poly.specs.Value.{value, Depth}
-use Rattle.poly.proofs.Depth.{Depths, Depths-coefs, Depth_negative}
+use Rattle.poly.proofs.Depth.{Depths, Depths-coefs, Depth-negative}
 use Rattle.poly.proofs.Values.{both, list_value, list_cons, value_horner, value-number, value_negative, integer_zero}
 
 module _ {R : Type 0} (f : RealClosedField R) where
@@ -44,7 +44,7 @@ module _ {R : Type 0} (f : RealClosedField R) where
       value_horner f n e x p d ∙ list_same_by e x (value_same e) (coefs p) (coefs q) (Depths-coefs n p d) (Depths-coefs n q k) t ∙ sym (value_horner f n e x q k)
 
   pub value_same_negative : (e : List R) (p q : Poly) → Depth (length e) p → Depth (length e) q → T (same (length e) (negative (length e) p) q) → value f q e ≡ - value f p e
-  value_same_negative e p q d k t = sym (value_same e (negative (length e) p) q (Depth_negative (length e) p d) k t) ∙ value_negative f e p d
+  value_same_negative e p q d k t = sym (value_same e (negative (length e) p) q (Depth-negative (length e) p d) k t) ∙ value_negative f e p d
 
   pub sign_number : (p : Poly) → Depth 0 p → f.sign (value f p []) ≡ sign_of (the_number p)
   sign_number p d = ap f.sign (value-number f [] p d) ∙ sign_integer f (the_number p)

@@ -21,7 +21,7 @@ use Rattle.poly.specs.Arithmetic.{constant, product}
 use Rattle.poly.specs.Leading.{last_or, leading, without_last, without_leading, scaled, without_first, derivative, degree}
 use Rattle.poly.specs.Value.{value, Depth, values_at, coefficients_at}
 use Rattle.roots.specs.Value.{slope}
-use Rattle.poly.proofs.Depth.{Depths, Depths-coefs, Depth_constant}
+use Rattle.poly.proofs.Depth.{Depths, Depths-coefs, Depth-constant}
 use Rattle.poly.proofs.Values.{both, by_test, list_value, list_nil, list_cons, value_horner, value_trimmed, value-zero_poly, value_is_zero, value_constant, value_product}
 
 pub coefs-from_coefs : (cs : List Poly) → coefs (from_coefs cs) ≡ cs
@@ -106,7 +106,7 @@ module _ {R : Type 0} (f : RealClosedField R) where
 
   value-scaled : (e : List R) (k : ℕ) (c : Poly) → Depth (length e) c → value f (product (length e) (constant (length e) (pos k)) c) e ≡ natural f k * value f c e
   value-scaled e k c d =
-      value_product f e (constant (length e) (pos k)) c (Depth_constant (length e) (pos k)) d ∙ ap (λ v. v * value f c e) (value_constant f e (pos k))
+      value_product f e (constant (length e) (pos k)) c (Depth-constant (length e) (pos k)) d ∙ ap (λ v. v * value f c e) (value_constant f e (pos k))
 
   list_scaled : (e : List R) (x : R) (k : ℕ) (cs : List Poly) → Depths (length e) cs →
       list_value f e x (scaled (length e) k cs) ≡ natural f k * list_value f e x cs + x * slope f (values_at f e cs) x

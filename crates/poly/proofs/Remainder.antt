@@ -20,7 +20,7 @@ use Rattle.poly.specs.Leading.{leading, shifted}
 use Rattle.poly.specs.Modest.{modest, Checked, TooBig, Fine}
 use Rattle.poly.specs.Division.{division_step, Division, divide, odd, exchanged, remainder}
 use Rattle.poly.specs.Value.{value, Depth, power}
-use Rattle.poly.proofs.Depth.{Depths, Depths-coefs, Depth_leading, Depth_negative, Depths-shifted, Depth-times, Depth-division_step, Depth-divide}
+use Rattle.poly.proofs.Depth.{Depths, Depths-coefs, Depth-leading, Depth-negative, Depths-shifted, Depth-times, Depth-division_step, Depth-divide}
 use Rattle.poly.proofs.Values.{list_value, list_cons, list_times, value_horner, value_trimmed, value-zero_poly, value_sum, value_negative, value_product}
 
 -- h times s, k times over
@@ -78,14 +78,14 @@ module _ {R : Type 0} (f : RealClosedField R) where
       let a = from_coefs (trim (map_poly (product n (leading n p)) (coefs s))) in
       let b = from_coefs (trim (map_poly (product n (leading n s)) m)) in
       let dm : Depths n m = Depths-shifted n j (coefs p) (Depths-coefs n p d) in
-      let da : Depth (suc n) a = Depth-times n (leading n p) (coefs s) (Depth_leading n p d) (Depths-coefs n s k) in
-      let db : Depth (suc n) b = Depth-times n (leading n s) m (Depth_leading n s k) dm in
+      let da : Depth (suc n) a = Depth-times n (leading n p) (coefs s) (Depth-leading n p d) (Depths-coefs n s k) in
+      let db : Depth (suc n) b = Depth-times n (leading n s) m (Depth-leading n s k) dm in
       let va : value f a (x ∷ e) ≡ value f (leading n p) e * value f s (x ∷ e) =
-      value-times e x (leading n p) (coefs s) (Depth_leading n p d) (Depths-coefs n s k) ∙ ap (λ v. value f (leading n p) e * v) (sym (value_horner f n e x s k)) in
+      value-times e x (leading n p) (coefs s) (Depth-leading n p d) (Depths-coefs n s k) ∙ ap (λ v. value f (leading n p) e * v) (sym (value_horner f n e x s k)) in
       let vb : value f b (x ∷ e) ≡ value f (leading n s) e * (power f x j * value f p (x ∷ e)) =
-      value-times e x (leading n s) m (Depth_leading n s k) dm
+      value-times e x (leading n s) m (Depth-leading n s k) dm
       ∙ ap (λ v. value f (leading n s) e * v) (list_shifted n e x j (coefs p) ∙ ap (λ v. power f x j * v) (sym (value_horner f n e x p d))) in
-      value_sum f (x ∷ e) a (negative (suc n) b) da (Depth_negative (suc n) b db) ∙ ap₂ ◌+◌ va (value_negative f (x ∷ e) b db ∙ ap -◌ vb)
+      value_sum f (x ∷ e) a (negative (suc n) b) da (Depth-negative (suc n) b db) ∙ ap₂ ◌+◌ va (value_negative f (x ∷ e) b db ∙ ap -◌ vb)
 
   sign-division_step : (e : List R) (x : R) (p s : Poly) (h : Sign) → Depth (suc (length e)) p → Depth (suc (length e)) s → sign (value f (leading (length e) p) e) ≡ h →
       value f p (x ∷ e) ≡ 𝟘 → sign (value f (division_step (length e) p s) (x ∷ e)) ≡ times h (sign (value f s (x ∷ e)))

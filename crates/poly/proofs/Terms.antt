@@ -11,7 +11,7 @@ use Rattle.poly.specs.Poly.{Poly}
 use Rattle.poly.specs.Arithmetic.{constant, variable, sum, product}
 use Rattle.poly.specs.Modest.{modest, Checked, TooBig, Fine, checked, on_both, term_poly}
 use Rattle.poly.specs.Value.{value, Depth}
-use Rattle.poly.proofs.Depth.{Depth_constant, Depth_variable, Depth_sum, Depth_product}
+use Rattle.poly.proofs.Depth.{Depth-constant, Depth-variable, Depth-sum, Depth-product}
 use Rattle.poly.proofs.Values.{value_constant, value_variable, value_sum, value_product}
 
 never_fine : {A : Type 0} (p : Poly) → TooBig ≡ Fine p → A
@@ -45,11 +45,11 @@ module _ {R : Type 0} (f : RealClosedField R) (e : List R) where
 
   pub value_term : (t : Term) (p : Poly) → term_poly (length e) t ≡ Fine p → Stands p (term_value f e t)
   unfolding term_poly term_value
-  value_term (Var i) p c = stands-checked (variable (length e) i) p _ (Depth_variable (length e) i, value_variable f e i) c
-  value_term (Num z) p c = stands-checked (constant (length e) z) p _ (Depth_constant (length e) z, value_constant f e z) c
+  value_term (Var i) p c = stands-checked (variable (length e) i) p _ (Depth-variable (length e) i, value_variable f e i) c
+  value_term (Num z) p c = stands-checked (constant (length e) z) p _ (Depth-constant (length e) z, value_constant f e z) c
   value_term (Sum s t) p c =
-      stands_both (sum (length e)) f.add (λ p q d k. (Depth_sum (length e) p q d k, value_sum f e p q d k))
+      stands_both (sum (length e)) f.add (λ p q d k. (Depth-sum (length e) p q d k, value_sum f e p q d k))
       (term_poly (length e) s) (term_poly (length e) t) (term_value f e s) (term_value f e t) (value_term s) (value_term t) p c
   value_term (Product s t) p c =
-      stands_both (product (length e)) f.mul (λ p q d k. (Depth_product (length e) p q d k, value_product f e p q d k))
+      stands_both (product (length e)) f.mul (λ p q d k. (Depth-product (length e) p q d k, value_product f e p q d k))
       (term_poly (length e) s) (term_poly (length e) t) (term_value f e s) (term_value f e t) (value_term s) (value_term t) p c

@@ -2,7 +2,7 @@
 use lib.ListN.{length}
 use Rattle.field.specs.Field.{RealClosedField}
 use Rattle.poly.specs.Theorems.{DepthLaws, ValueLaws, EqualityLaws, LeadingLaws, DerivativeLaws, RemainderLaws}
-use Rattle.poly.proofs.Depth.{Depth_zero_poly, Depth_constant, Depth_variable, Depth_sum, Depth_product, Depth_negative, Depth_leading, Depth_without_leading, Depth_derivative, Depth_remainder}
+use Rattle.poly.proofs.Depth.{Depth-zero_poly, Depth-constant, Depth-variable, Depth-sum, Depth-product, Depth-negative, Depth-leading, Depth-without_leading, Depth-derivative, Depth-remainder}
 use Rattle.poly.proofs.Values.{value_is_zero, value_constant, value_variable, value_sum, value_product, value_negative, value_horner}
 use Rattle.poly.proofs.Terms.{value_term}
 use Rattle.poly.proofs.Equality.{value_same, value_same_negative, sign_number}
@@ -12,16 +12,16 @@ use Rattle.poly.proofs.Remainder.{value_division_step, remainder_sign}
 pub depth_laws : DepthLaws
 depth_laws =
     record {
-      Depth_zero_poly = Depth_zero_poly;
-      Depth_constant = Depth_constant;
-      Depth_variable = Depth_variable;
-      Depth_sum = Depth_sum;
-      Depth_product = Depth_product;
-      Depth_negative = Depth_negative;
-      Depth_leading = Depth_leading;
-      Depth_without_leading = Depth_without_leading;
-      Depth_derivative = Depth_derivative;
-      Depth_remainder = Depth_remainder;
+      Depth-zero_poly = Depth-zero_poly;
+      Depth-constant = Depth-constant;
+      Depth-variable = Depth-variable;
+      Depth-sum = Depth-sum;
+      Depth-product = Depth-product;
+      Depth-negative = Depth-negative;
+      Depth-leading = Depth-leading;
+      Depth-without_leading = Depth-without_leading;
+      Depth-derivative = Depth-derivative;
+      Depth-remainder = Depth-remainder;
     }
 
 module _ {R : Type 0} (f : RealClosedField R) where

@@ -14,7 +14,7 @@ use Rattle.poly.specs.Poly.{Poly, Number, End, Coef, from_coefs, coefs, the_numb
 use Rattle.poly.specs.Arithmetic.{constant, variable, sum_by, sum, map_poly, product_by, product, negative}
 use Rattle.poly.specs.Value.{value, Depth, values_at}
 use Rattle.roots.specs.Value.{value as value_of}
-use Rattle.poly.proofs.Depth.{Depths, Depths-coefs, from_coefs-coefs, Depth-number, Depth_product, Depth_zero_poly, Depths-map, Depths-product_by}
+use Rattle.poly.proofs.Depth.{Depths, Depths-coefs, from_coefs-coefs, Depth-number, Depth-product, Depth-zero_poly, Depths-map, Depths-product_by}
 
 -- both parts of a test
 pub both : (a b : Bool) → T (a && b) → T a × T b
@@ -168,7 +168,7 @@ module _ {R : Type 0} (f : RealClosedField R) where
       let n = length e in
       let pq = product_by (sum n) (product n) (zero_poly n) p q in
       list_sum_by e x (value_sum e) (map_poly (product n a) q) (zero_poly n ∷ pq)
-      (Depths-map n (product n a) (λ b. Depth_product n a b d.0) q k) (Depth_zero_poly n, Depths-product_by n (product n) (Depth_product n) p q d.1 k)
+      (Depths-map n (product n a) (λ b. Depth-product n a b d.0) q k) (Depth-zero_poly n, Depths-product_by n (product n) (Depth-product n) p q d.1 k)
       ∙ ap₂ ◌+◌ (list_times e x (value f a e) n (product n a) (λ b. h a b d.0) q k)
       (list_cons e x (zero_poly n) pq ∙ ap₂ (λ u v. u + x * v) (value-zero_poly n e) (list_product_by e x h p q d.1 k))
       ∙ regroup (value f a e) (list_value f e x p) (list_value f e x q)

@@ -15,16 +15,16 @@ use Rattle.roots.specs.Value.{value as value_of, slope}
 
 -- Each operation keeps the count of variables.
 pub record DepthLaws : Type 0 where
-  pub Depth_zero_poly : (n : ℕ) → Depth n (zero_poly n)
-  pub Depth_constant : (n : ℕ) (z : ℤ) → Depth n (constant n z)
-  pub Depth_variable : (n i : ℕ) → Depth n (variable n i)
-  pub Depth_sum : (n : ℕ) (p q : Poly) → Depth n p → Depth n q → Depth n (sum n p q)
-  pub Depth_product : (n : ℕ) (p q : Poly) → Depth n p → Depth n q → Depth n (product n p q)
-  pub Depth_negative : (n : ℕ) (p : Poly) → Depth n p → Depth n (negative n p)
-  pub Depth_leading : (n : ℕ) (p : Poly) → Depth (suc n) p → Depth n (leading n p)
-  pub Depth_without_leading : (n : ℕ) (p : Poly) → Depth (suc n) p → Depth (suc n) (without_leading p)
-  pub Depth_derivative : (n : ℕ) (p : Poly) → Depth (suc n) p → Depth (suc n) (derivative n p)
-  pub Depth_remainder : (n : ℕ) (h : Sign) (p s r : Poly) → Depth (suc n) p → Depth (suc n) s → remainder n h p s ≡ Fine r → Depth (suc n) r
+  pub Depth-zero_poly : (n : ℕ) → Depth n (zero_poly n)
+  pub Depth-constant : (n : ℕ) (z : ℤ) → Depth n (constant n z)
+  pub Depth-variable : (n i : ℕ) → Depth n (variable n i)
+  pub Depth-sum : (n : ℕ) (p q : Poly) → Depth n p → Depth n q → Depth n (sum n p q)
+  pub Depth-product : (n : ℕ) (p q : Poly) → Depth n p → Depth n q → Depth n (product n p q)
+  pub Depth-negative : (n : ℕ) (p : Poly) → Depth n p → Depth n (negative n p)
+  pub Depth-leading : (n : ℕ) (p : Poly) → Depth (suc n) p → Depth n (leading n p)
+  pub Depth-without_leading : (n : ℕ) (p : Poly) → Depth (suc n) p → Depth (suc n) (without_leading p)
+  pub Depth-derivative : (n : ℕ) (p : Poly) → Depth (suc n) p → Depth (suc n) (derivative n p)
+  pub Depth-remainder : (n : ℕ) (h : Sign) (p s r : Poly) → Depth (suc n) p → Depth (suc n) s → remainder n h p s ≡ Fine r → Depth (suc n) r
 
 module _ {R : Type 0} (f : RealClosedField R) where
   open f use {zero as 𝟘, add as ◌+◌, mul as ◌*◌, neg as -◌, sign}

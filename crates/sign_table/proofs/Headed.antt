@@ -14,7 +14,7 @@ use Rattle.roots.proofs.NotZeroAllOver.{not_zero_somewhere}
 use Rattle.poly.specs.Poly.{Poly}
 use Rattle.poly.specs.Leading.{last_or, leading, derivative, degree}
 use Rattle.poly.specs.Value.{value, Depth, coefficients_at}
-use Rattle.poly.proofs.Depth.{Depth_derivative}
+use Rattle.poly.proofs.Depth.{Depth-derivative}
 use Rattle.poly.proofs.Values.{value_horner}
 use Rattle.poly.proofs.Leading.{last_leading, sign_leading_derivative}
 use Rattle.sign_table.specs.Leadings.{Left, Plain, Real}
@@ -62,7 +62,7 @@ module _ {R : Type 0} (f : RealClosedField R) (e : List R) where
   pub derivative-headed : (p : Poly) (s : Sign) → HasLeading p s → 1 ≤ degree p → HasLeading (derivative (length e) p) s
   derivative-headed p s h k =
       record {
-        depth = Depth_derivative (length e) p h.depth;
+        depth = Depth-derivative (length e) p h.depth;
         not_zero = h.not_zero;
         is = sign_leading_derivative f e p h.depth k (subst NotZero (sym h.is) h.not_zero) ∙ h.is;
       }

@@ -14,7 +14,7 @@ use Rattle.field.proofs.Order.{zero_sign}
 use Rattle.poly.specs.Poly.{Poly, is_zero}
 use Rattle.poly.specs.Leading.{leading, without_leading, degree}
 use Rattle.poly.specs.Value.{value}
-use Rattle.poly.proofs.Depth.{Depth_leading, Depth_without_leading}
+use Rattle.poly.proofs.Depth.{Depth-leading, Depth-without_leading}
 use Rattle.poly.proofs.Values.{value_is_zero}
 use Rattle.poly.proofs.Leading.{value_without_leading, value_degree_zero}
 use Rattle.sign_table.specs.Tree.{Tree, GivenUp}
@@ -80,7 +80,7 @@ module _ {R : Type 0} (f : RealClosedField R) (e : List R) where
         ]) e → Settled (p ∷ ps) ls)
         (λ z says. next (Plain Zero) (λ x. zero_sign f (value f p (x ∷ e)) (value_is_zero f (x ∷ e) p z)) (leadings-settled looks ps (Plain Zero ∷ ls) fs d.1 t says))
         (λ z says.
-        let (gs, t-gs, says') = ask_says f e what (leading n p) fs (λ s gs. headed p s ps ls (λ qs ms. leadings looks n qs ms gs k)) (Depth_leading n p d.0) t says in
+        let (gs, t-gs, says') = ask_says f e what (leading n p) fs (λ s gs. headed p s ps ls (λ qs ms. leadings looks n qs ms gs k)) (Depth-leading n p d.0) t says in
         by_sign (sign (value f (leading n p) e)) refl gs (λ qs ms d-qs. leadings-settled looks qs ms gs d-qs t-gs) says')
         h
       where
@@ -100,7 +100,7 @@ module _ {R : Type 0} (f : RealClosedField R) (e : List R) where
             ((qs : List Poly) (ms : List Left) → DepthAll (suc n) qs → Says f what (leadings looks n qs ms gs k) e → Settled qs ms) →
             Says f what (headed p s ps ls (λ qs ms. leadings looks n qs ms gs k)) e → Settled (p ∷ ps) ls
         by_sign Neg s-is gs rec says = next (left_of p Neg) (left_of_lem p Neg (record { depth = d.0; not_zero = tt; is = s-is })) (rec ps (left_of p Neg ∷ ls) d.1 says)
-        by_sign Zero s-is gs rec says = shorter (f.sign_zero (value f (leading n p) e) s-is) (rec (without_leading p ∷ ps) ls (Depth_without_leading n p d.0, d.1) says)
+        by_sign Zero s-is gs rec says = shorter (f.sign_zero (value f (leading n p) e) s-is) (rec (without_leading p ∷ ps) ls (Depth-without_leading n p d.0, d.1) says)
         by_sign Pos s-is gs rec says = next (left_of p Pos) (left_of_lem p Pos (record { depth = d.0; not_zero = tt; is = s-is })) (rec ps (left_of p Pos ∷ ls) d.1 says)
 
   pub reals-headed : (ps : List Poly) (ls : List Left) → AreLeft ps ls → Every (HeadedReal f e) (reals ls)

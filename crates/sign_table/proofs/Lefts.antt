@@ -11,7 +11,7 @@ use Rattle.poly.specs.Leading.{degree}
 use Rattle.poly.specs.Modest.{Checked, TooBig, Fine}
 use Rattle.poly.specs.Division.{remainder}
 use Rattle.poly.specs.Value.{Depth}
-use Rattle.poly.proofs.Depth.{Depth_remainder}
+use Rattle.poly.proofs.Depth.{Depth-remainder}
 use Rattle.sign_table.specs.Leadings.{Left, Plain, Real, turned_round, reals}
 use Rattle.sign_table.specs.Table.{poly_of, leading_sign, polys, highest, without, remainders, fine_ones, none_left}
 use Rattle.sign_table.specs.Meaning.{DepthAll}
@@ -80,7 +80,7 @@ remainder_depths n p d (l ∷ ls) h = go (remainder n (leading_sign l) (poly_of 
   where
     go : (r : Checked) → remainder n (leading_sign l) (poly_of l) p ≡ r → DepthAll (suc n) (fine_ones (remainders n p ls)) → DepthAll (suc n) (fine_ones (r ∷ remainders n p ls))
     go TooBig r-is rec = rec
-    go (Fine r) r-is rec = (Depth_remainder n (leading_sign l) (poly_of l) p r h.0 d r-is, rec)
+    go (Fine r) r-is rec = (Depth-remainder n (leading_sign l) (poly_of l) p r h.0 d r-is, rec)
 
 -- the polynomials of the next table
 pub next_depths : (n : ℕ) (p : Poly) → Depth (suc n) p → (ls : List Left) → Every (DepthLeft n) ls → DepthAll (suc n) (polys ls ++ fine_ones (remainders n p ls))

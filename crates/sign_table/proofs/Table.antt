@@ -15,7 +15,7 @@ use Rattle.poly.specs.Poly.{Poly}
 use Rattle.poly.specs.Leading.{leading, derivative, degree}
 use Rattle.poly.specs.Modest.{modest}
 use Rattle.poly.specs.Value.{value}
-use Rattle.poly.proofs.Depth.{Depth_leading}
+use Rattle.poly.proofs.Depth.{Depth-leading}
 use Rattle.poly.proofs.Values.{both}
 use Rattle.sign_table.specs.Tree.{Tree, GivenUp}
 use Rattle.sign_table.specs.Facts.{Fact}
@@ -97,7 +97,7 @@ module _ {R : Type 0} (f : RealClosedField R) (e : List R) where
         let fine' : T (all_fine (remainders n p qs)) = (both (modest (suc n) d) (all_fine (remainders n p qs)) fine).1 in
         let (m, gs, right, t-gs, says'') = go_right (polys qs ++ fine_ones (remainders n p qs)) (record { poly = leading n d; sign = s } ∷ fs) inner
         (next_depths n p l-real.0.depth qs (every_map (Headed f e) (DepthLeft n) (headed_depth f e) qs (d_headed, ls_headed)))
-        (Depth_leading n d d_headed.depth, d_headed.is, t) says' in
+        (Depth-leading n d d_headed.depth, d_headed.is, t) says' in
         known m gs t-gs (deduced_right f e p s l-real.0 l-real.1 ls ls_headed fine' m right) says'')
         (λ _ given-up. absurd (not_given_up what yes_or_no given-up)) says
       where

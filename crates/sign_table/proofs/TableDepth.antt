@@ -10,7 +10,7 @@ use Rattle.poly.specs.Poly.{Poly, is_zero}
 use Rattle.poly.specs.Leading.{leading, without_leading, derivative, degree}
 use Rattle.poly.specs.Modest.{modest}
 use Rattle.poly.specs.Value.{Depth}
-use Rattle.poly.proofs.Depth.{Depth_leading, Depth_without_leading, Depth_derivative}
+use Rattle.poly.proofs.Depth.{Depth-leading, Depth-without_leading, Depth-derivative}
 use Rattle.sign_table.specs.Tree.{Tree, GivenUp}
 use Rattle.sign_table.specs.Facts.{Fact, Known, Unknown, Is, known, ask_known, ask}
 use Rattle.sign_table.specs.Leadings.{Left, Plain, Real, left_of, headed, turned_round, leadings, reals, filled_all}
@@ -50,13 +50,13 @@ leadings_depth n k h (suc looks) (p ∷ ps) ls fs d d-ls =
       | false ↦ ask n (leading n p) fs (λ s gs. headed p s ps ls (λ qs ms. leadings looks n qs ms gs k))
     ]))
     (λ _. leadings_depth n k h looks ps (Plain Zero ∷ ls) fs d.1 (tt, d-ls))
-    (λ _. ask_depth n (leading n p) fs (λ s gs. headed p s ps ls (λ qs ms. leadings looks n qs ms gs k)) (Depth_leading n p d.0)
+    (λ _. ask_depth n (leading n p) fs (λ s gs. headed p s ps ls (λ qs ms. leadings looks n qs ms gs k)) (Depth-leading n p d.0)
     (λ s gs. by_sign s gs (λ qs ms. leadings_depth n k h looks qs ms gs)))
   where
     by_sign : (s : Sign) (gs : List Fact) → ((qs : List Poly) (ms : List Left) → DepthAll (suc n) qs → Every (DepthLeft n) ms → DepthTree n (leadings looks n qs ms gs k)) →
         DepthTree n (headed p s ps ls (λ qs ms. leadings looks n qs ms gs k))
     by_sign Neg gs rec = rec ps (left_of p Neg ∷ ls) d.1 (left_of_depth n p Neg d.0, d-ls)
-    by_sign Zero gs rec = rec (without_leading p ∷ ps) ls (Depth_without_leading n p d.0, d.1) d-ls
+    by_sign Zero gs rec = rec (without_leading p ∷ ps) ls (Depth-without_leading n p d.0, d.1) d-ls
     by_sign Pos gs rec = rec ps (left_of p Pos ∷ ls) d.1 (left_of_depth n p Pos d.0, d-ls)
 
 module _ (n : ℕ) (go : List Poly → List Fact → Continuation → Tree)
@@ -71,7 +71,7 @@ module _ (n : ℕ) (go : List Poly → List Fact → Continuation → Tree)
         | false ↦ GivenUp
       ]))
       (λ _. go-depth (polys qs ++ fine_ones (remainders n (poly_of l) qs)) (record { poly = leading n (derivative n (poly_of l)); sign = leading_sign l } ∷ fs) inner
-      (next_depths n (poly_of l) d qs (Depth_derivative n (poly_of l) d, d-ls))
+      (next_depths n (poly_of l) d qs (Depth-derivative n (poly_of l) d, d-ls))
       (λ m gs. on_test (all_known (deduced (length qs) m)) (λ b. DepthTree n (elim b [ true ↦ k (inserted i (deduced (length qs) m)) gs | false ↦ GivenUp ]))
       (λ _. h (inserted i (deduced (length qs) m)) gs) (λ _. tt)))
       (λ _. tt)

@@ -35,7 +35,7 @@ front_holds n zs count h =
 none_holds : (n : ℕ) → Holds n []
 none_holds n =
     holds n [] End (record { rising = unfold monomials_of Rising in tt; sizes = unfold monomials_of SizesAtMost in tt; short = omega arith })
-    (record { canon = canon_laws.Canon_zero_poly 9 (suc n); monomials = unfold monomials_of flat in refl })
+    (record { canon = canon_laws.Canon-zero_poly 9 (suc n); monomials = unfold monomials_of flat in refl })
 
 written_holds : (n i : ℕ) (zs slots after : List ℤ) → AllHold n slots → Holds n zs → Written slot_in i zs slots after → AllHold n after
 written_holds n i zs slots after all h w j =

@@ -13,7 +13,7 @@ use Rattle.terms.specs.ModestTerms.{small_key, small_terms, last_digits, count_t
 use Rattle.terms.specs.Sizes.{KeysBelow}
 use Rattle.terms.specs.Canon.{Canon}
 use Rattle.terms.proofs.Laws.{flat_laws, canon_laws, flat_operation_laws, flat_leading_laws, flat-modest_laws, flat_division_laws, size_laws}
-use Rattle.terms.proofs.Checks.{Canon_modest}
+use Rattle.terms.proofs.Checks.{Canon-modest}
 use Rattle.storage.specs.Denoting.{Checks, DenotingLaws}
 
 small_zero : (d : ℕ) → small_key d 0 ≡ true
@@ -67,38 +67,38 @@ checks : (b n : ℕ) (ts : List Monomial) (p : Poly) → b ≤ 32 → n ≤ 4 �
 checks b n ts p h l c e =
     let keys = size_laws.keys_rising 0 (32 ^ n) (flat n p) (flat_laws.flat_rising b n p h c) in
     let test = ap (modest_terms 4) e ∙ modest_any n (flat n p) l keys ∙ sym (flat-modest_laws.flat_modest b n p h c) in
-    record { test = test; kept = λ t. record { canon = Canon_modest b n p c (subst T (sym (sym test ∙ t)) tt); monomials = e } }
+    record { test = test; kept = λ t. record { canon = Canon-modest b n p c (subst T (sym (sym test ∙ t)) tt); monomials = e } }
 
 pub denoting_laws : DenotingLaws
 denoting_laws =
     record {
       one = λ n ts p q d e. flat_laws.flat_unique 9 n p q (omega arith) d.canon e.canon (sym d.monomials ∙ e.monomials);
       sum_checks = λ n ts us p q h d e.
-          checks 9 n (add_terms ts us) (sum n p q) (omega arith) h (canon_laws.Canon_sum 9 n p q d.canon e.canon)
+          checks 9 n (add_terms ts us) (sum n p q) (omega arith) h (canon_laws.Canon-sum 9 n p q d.canon e.canon)
           (ap₂ add_terms d.monomials e.monomials ∙ sym (flat_operation_laws.flat_sum 9 n p q (omega arith) d.canon e.canon));
       product_checks = λ n ts us p q h d e.
-          checks 17 n (mul_terms ts us) (product n p q) (omega arith) h (canon_laws.Canon_product 8 8 n p q d.canon e.canon)
+          checks 17 n (mul_terms ts us) (product n p q) (omega arith) h (canon_laws.Canon-product 8 8 n p q d.canon e.canon)
           (ap₂ mul_terms d.monomials e.monomials ∙ sym (flat_operation_laws.flat_product 8 8 n p q (omega arith) d.canon e.canon));
       negative_checks = λ n ts p h d.
-          checks 9 n (neg_terms ts) (negative n p) (omega arith) h (canon_laws.Canon_negative 9 n p d.canon)
+          checks 9 n (neg_terms ts) (negative n p) (omega arith) h (canon_laws.Canon-negative 9 n p d.canon)
           (ap neg_terms d.monomials ∙ sym (flat_operation_laws.flat_negative n p));
-      number_checks = λ n z h. checks 9 n (constant_terms z) (constant n z) (omega arith) h (canon_laws.Canon_constant 9 n z (omega arith)) (sym (flat_operation_laws.flat_constant n z));
-      variable_checks = λ n i h. checks 9 n (variable_terms n i) (variable n i) (omega arith) h (canon_laws.Canon_variable 9 n i (omega arith)) (sym (flat_operation_laws.flat_variable n i));
+      number_checks = λ n z h. checks 9 n (constant_terms z) (constant n z) (omega arith) h (canon_laws.Canon-constant 9 n z (omega arith)) (sym (flat_operation_laws.flat_constant n z));
+      variable_checks = λ n i h. checks 9 n (variable_terms n i) (variable n i) (omega arith) h (canon_laws.Canon-variable 9 n i (omega arith)) (sym (flat_operation_laws.flat_variable n i));
       derivative_checks = λ n ts p h d.
-          checks 9 (suc n) (derivative_terms n ts) (derivative n p) (omega arith) h (canon_laws.Canon_derivative 8 n p d.canon)
+          checks 9 (suc n) (derivative_terms n ts) (derivative n p) (omega arith) h (canon_laws.Canon-derivative 8 n p d.canon)
           (ap (derivative_terms n) d.monomials ∙ sym (flat_leading_laws.flat_derivative 8 n p (omega arith) d.canon));
       step_checks = λ n ts us p s h d e.
-          checks 17 (suc n) (step_terms n ts us) (division_step n p s) (omega arith) h (canon_laws.Canon_division_step 8 n p s d.canon e.canon)
+          checks 17 (suc n) (step_terms n ts us) (division_step n p s) (omega arith) h (canon_laws.Canon-division_step 8 n p s d.canon e.canon)
           (ap₂ (step_terms n) d.monomials e.monomials ∙ sym (flat_division_laws.flat_division_step 8 n p s (omega arith) d.canon e.canon));
       leading_denotes = λ n ts p d.
-          record { canon = canon_laws.Canon_leading 9 n p d.canon; monomials = ap (leading_terms n) d.monomials ∙ sym (flat_leading_laws.flat_leading 9 n p (omega arith) d.canon) };
+          record { canon = canon_laws.Canon-leading 9 n p d.canon; monomials = ap (leading_terms n) d.monomials ∙ sym (flat_leading_laws.flat_leading 9 n p (omega arith) d.canon) };
       without_leading_denotes = λ n ts p d.
           record {
-            canon = canon_laws.Canon_without_leading 9 n p d.canon;
+            canon = canon_laws.Canon-without_leading 9 n p d.canon;
             monomials = ap (prefix_terms n) d.monomials ∙ sym (flat_leading_laws.flat_without_leading 9 n p (omega arith) d.canon);
           };
       negative_denotes = λ n ts p d.
-          record { canon = canon_laws.Canon_negative 9 n p d.canon; monomials = ap neg_terms d.monomials ∙ sym (flat_operation_laws.flat_negative n p) };
+          record { canon = canon_laws.Canon-negative 9 n p d.canon; monomials = ap neg_terms d.monomials ∙ sym (flat_operation_laws.flat_negative n p) };
       degree_is = λ n ts p d. ap (degree_terms n) d.monomials ∙ sym (flat_leading_laws.flat_degree 9 n p (omega arith) d.canon);
       length_is = λ n ts p d. ap (length_terms n) d.monomials ∙ sym (flat_leading_laws.flat_length 9 n p (omega arith) d.canon);
       zero_is = λ n ts p d. ap is_zero_terms d.monomials ∙ sym (flat_laws.flat_is_zero 9 n p d.canon);

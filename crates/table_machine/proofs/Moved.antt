@@ -100,10 +100,10 @@ moves-asked n c m k d r looks ahead z t x =
     (ap (question_from n trees c.slots) x.question.there) (ap (fact_from n c.slots) x.fact.there) p.next (p.written trees facts questions)))
 
 -- the last question's branch above is finished
-pub returns-above : (n : ℕ) (c : Cells) (t : Tree) (q : Question) (k : ℕ) (d : Cells) (r : Marks) → q ≡ question_in c.questions k → q.branch ≡ Above →
+pub returns_above : (n : ℕ) (c : Cells) (t : Tree) (q : Question) (k : ℕ) (d : Cells) (r : Marks) → q ≡ question_in c.questions k → q.branch ≡ Above →
     Explores n c q.marks k (At t) Zero d r → (trees : Tree → sign.Tree) (run : Run) → Sound (memory_of n trees c) (stack.Holding (trees t) (suc k)) →
     Advances run n (memory_of n trees c) (stack.Holding (trees t) (suc k)) (memory_of n trees d) (stack.Facing (marks_from n d.slots r) (suc k)) 0 nothing_more
-returns-above n c t q k d r e b x trees run sound =
+returns_above n c t q k d r e b x trees run sound =
     let m = q.marks in
     let p = x.settles in
     let new = memory_of n trees (rewritten c d.lefts d.facts d.questions) in
@@ -113,14 +113,14 @@ returns-above n c t q k d r e b x trees run sound =
     ap (question_from n trees c.slots) (sym e) ∙ ap (λ b. stack.Pending old (exploring trees b)) b in
     subst (λ y. Advances run n (memory_of n trees c) (stack.Holding (trees t) (suc k)) (memory_of n trees y) (stack.Facing (marks_from n y.slots r) (suc k)) 0 nothing_more) (sym x.rest)
     (subst (λ y. Advances run n (memory_of n trees c) (stack.Holding (trees t) (suc k)) new (stack.Facing y (suc k)) 0 nothing_more) marks
-    (stacks_mirror.returns-above run n (memory_of n trees c) new (trees t) old k sound was
+    (stacks_mirror.returns_above run n (memory_of n trees c) new (trees t) old k sound was
     (agree n trees c d.lefts d.facts d.questions m k p.kept x.fact.under x.question.under)
     (ap (question_from n trees c.slots) x.question.there) (ap (fact_from n c.slots) x.fact.there)))
 
-pub returns-at : (n : ℕ) (c : Cells) (t above : Tree) (q : Question) (k : ℕ) (d : Cells) (r : Marks) → q ≡ question_in c.questions k → q.branch ≡ At above →
+pub returns_at : (n : ℕ) (c : Cells) (t above : Tree) (q : Question) (k : ℕ) (d : Cells) (r : Marks) → q ≡ question_in c.questions k → q.branch ≡ At above →
     Explores n c q.marks k (Below t above) Neg d r → (trees : Tree → sign.Tree) (run : Run) → Sound (memory_of n trees c) (stack.Holding (trees t) (suc k)) →
     Advances run n (memory_of n trees c) (stack.Holding (trees t) (suc k)) (memory_of n trees d) (stack.Facing (marks_from n d.slots r) (suc k)) 0 nothing_more
-returns-at n c t above q k d r e b x trees run sound =
+returns_at n c t above q k d r e b x trees run sound =
     let m = q.marks in
     let p = x.settles in
     let new = memory_of n trees (rewritten c d.lefts d.facts d.questions) in
@@ -130,7 +130,7 @@ returns-at n c t above q k d r e b x trees run sound =
     ap (question_from n trees c.slots) (sym e) ∙ ap (λ b. stack.Pending old (exploring trees b)) b in
     subst (λ y. Advances run n (memory_of n trees c) (stack.Holding (trees t) (suc k)) (memory_of n trees y) (stack.Facing (marks_from n y.slots r) (suc k)) 0 nothing_more) (sym x.rest)
     (subst (λ y. Advances run n (memory_of n trees c) (stack.Holding (trees t) (suc k)) new (stack.Facing y (suc k)) 0 nothing_more) marks
-    (stacks_mirror.returns-at run n (memory_of n trees c) new (trees t) (trees above) old k sound was
+    (stacks_mirror.returns_at run n (memory_of n trees c) new (trees t) (trees above) old k sound was
     (agree n trees c d.lefts d.facts d.questions m k p.kept x.fact.under x.question.under)
     (ap (question_from n trees c.slots) x.question.there) (ap (fact_from n c.slots) x.fact.there) p.next (p.written trees d.facts d.questions)))
 
@@ -142,7 +142,7 @@ returned_above n c t q pending d r l e b x trees run =
     let j : suc (pending - 1) ≡ pending = omega arith in
     subst (λ k. Sound (memory_of n trees c) (stack.Holding (trees t) k) →
     Advances run n (memory_of n trees c) (stack.Holding (trees t) k) (memory_of n trees d) (stack.Facing (marks_from n d.slots r) k) 0 nothing_more) j
-    (returns-above n c t q (pending - 1) d r e b x trees run)
+    (returns_above n c t q (pending - 1) d r e b x trees run)
 
 pub returned_at : (n : ℕ) (c : Cells) (t above : Tree) (q : Question) (pending : ℕ) (d : Cells) (r : Marks) → 0 < pending → q ≡ question_in c.questions (pending - 1) → q.branch ≡ At above →
     Explores n c q.marks (pending - 1) (Below t above) Neg d r → (trees : Tree → sign.Tree) (run : Run) → Sound (memory_of n trees c) (stack.Holding (trees t) pending) →
@@ -151,7 +151,7 @@ returned_at n c t above q pending d r l e b x trees run =
     let j : suc (pending - 1) ≡ pending = omega arith in
     subst (λ k. Sound (memory_of n trees c) (stack.Holding (trees t) k) →
     Advances run n (memory_of n trees c) (stack.Holding (trees t) k) (memory_of n trees d) (stack.Facing (marks_from n d.slots r) k) 0 nothing_more) j
-    (returns-at n c t above q (pending - 1) d r e b x trees run)
+    (returns_at n c t above q (pending - 1) d r e b x trees run)
 
 pub finishes : (n : ℕ) (c : Cells) (t : Tree) (pending : ℕ) → 0 < pending → Finishes n c t pending
 finishes n c t pending l at above b trees run =
@@ -160,7 +160,7 @@ finishes n c t pending l at above b trees run =
     let p = leading n (current_poly n c.slots m) in
     subst (λ k. Sound (memory_of n trees c) (stack.Holding (trees t) k) →
     Advances run n (memory_of n trees c) (stack.Holding (trees t) k) (memory_of n trees c) (stack.Holding (run.join p (trees t) (trees at) (trees above)) (pending - 1)) 0 (noted n p)) j
-    (λ sound. stacks_mirror.returns-below run n (memory_of n trees c) (trees t) (trees at) (trees above) (marks_from n c.slots m) (pending - 1) sound
+    (λ sound. stacks_mirror.returns_below run n (memory_of n trees c) (trees t) (trees at) (trees above) (marks_from n c.slots m) (pending - 1) sound
     (ap (λ b. stack.Pending (marks_from n c.slots m) (exploring trees b)) b))
 
 pub begins : (n : ℕ) (c : Cells) (size : ℕ) (count : ℕ) → count ≡ length (slot_in c.slots 0) →

@@ -13,7 +13,7 @@ use Rattle.terms.specs.Canon.{Canon}
 use Rattle.terms.specs.Sizes.{KeysBelow, SizesAtMost}
 use Rattle.terms.proofs.Tests.{on_test}
 use Rattle.terms.proofs.Coefficients.{merge_cases, put_cases}
-use Rattle.terms.proofs.Canons.{Canon_product, Canon_division_step}
+use Rattle.terms.proofs.Canons.{Canon-product, Canon-division_step}
 use Rattle.terms.proofs.Flat.{flat_rising}
 use Rattle.terms.proofs.Sums.{flat_product}
 use Rattle.terms.proofs.Steps.{flat_division_step}
@@ -91,10 +91,10 @@ pub keys_flat : (b n : ℕ) (p : Poly) → n ≤ 4 → b ≤ 32 → Canon b n p 
 keys_flat b n p m l d = keys_wider (32 ^ n) (2 ^ 20) (flat n p) (four_digits n m) (keys_rising 0 (32 ^ n) (flat n p) (flat_rising b n p l d))
 
 pub rising_of_product : (a b n : ℕ) (p q : Poly) → suc a + b ≤ 32 → Canon (suc a) n p → Canon (suc b) n q → Rising 0 (32 ^ n) (mul_terms (flat n p) (flat n q))
-rising_of_product a b n p q l d k = subst (Rising 0 (32 ^ n)) (flat_product a b n p q l d k) (flat_rising (suc a + b) n (product n p q) l (Canon_product (suc a) b n p q d k))
+rising_of_product a b n p q l d k = subst (Rising 0 (32 ^ n)) (flat_product a b n p q l d k) (flat_rising (suc a + b) n (product n p q) l (Canon-product (suc a) b n p q d k))
 
 pub rising_of_step : (b n : ℕ) (p s : Poly) → suc b + b ≤ 32 → Canon (suc b) (suc n) p → Canon (suc b) (suc n) s → Rising 0 (32 ^ suc n) (step_terms n (flat (suc n) p) (flat (suc n) s))
-rising_of_step b n p s l d k = subst (Rising 0 (32 ^ suc n)) (flat_division_step b n p s l d k) (flat_rising (suc b + b) (suc n) (division_step n p s) l (Canon_division_step b n p s d k))
+rising_of_step b n p s l d k = subst (Rising 0 (32 ^ suc n)) (flat_division_step b n p s l d k) (flat_rising (suc b + b) (suc n) (division_step n p s) l (Canon-division_step b n p s d k))
 
 -- sizes of sums and products
 size_subℕ : (a b : ℕ) → magnitude (sub_ℕ a b) ≤ a + b

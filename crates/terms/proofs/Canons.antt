@@ -6,7 +6,7 @@ use Rattle.poly.specs.Arithmetic.{constant, variable, sum_by, sum, map_poly, pro
 use Rattle.poly.specs.Leading.{last_or, leading, without_last, without_leading, scaled, without_first, derivative, shifted}
 use Rattle.poly.specs.Division.{division_step}
 use Rattle.poly.specs.Value.{Depth}
-use Rattle.poly.proofs.Depth.{Depth_negative, Depth-from_coefs, Depths}
+use Rattle.poly.proofs.Depth.{Depth-negative, Depth-from_coefs, Depths}
 use Rattle.poly.proofs.Leading.{coefs-from_coefs}
 use Rattle.terms.specs.Canon.{Trimmed, AllOf, Canon}
 use Rattle.terms.proofs.Tests.{on_test, T-both, both_T}
@@ -83,42 +83,42 @@ canon_trimmed b n cs l d =
       subst (AllOf (Canon b n)) (sym e) (all-trim (Canon b n) cs d),
     )
 
-pub Canon_wider : (a b n : ℕ) (p : Poly) → a ≤ b → Canon a n p → Canon b n p
+pub Canon-wider : (a b n : ℕ) (p : Poly) → a ≤ b → Canon a n p → Canon b n p
 unfolding Canon
-Canon_wider a b zero p l d = d
-Canon_wider a b (suc n) p l d = (d.0, omega (arith, d.1), d.2, all-imply (Canon a n) (Canon b n) (λ c. Canon_wider a b n c l) (coefs p) d.3)
+Canon-wider a b zero p l d = d
+Canon-wider a b (suc n) p l d = (d.0, omega (arith, d.1), d.2, all-imply (Canon a n) (Canon b n) (λ c. Canon-wider a b n c l) (coefs p) d.3)
 
 depths : (n : ℕ) (cs : List Poly) → AllOf (Depth n) cs → Depths n cs
 unfolding AllOf
 depths n [] d = tt
 depths n (c ∷ cs) d = (d.0, depths n cs d.1)
 
-pub Canon_Depth : (b n : ℕ) (p : Poly) → Canon b n p → Depth n p
+pub Canon-Depth : (b n : ℕ) (p : Poly) → Canon b n p → Depth n p
 unfolding Canon
-Canon_Depth b zero p d = d
-Canon_Depth b (suc n) p d = subst (Depth (suc n)) (sym d.0) (Depth-from_coefs n (coefs p) (depths n (coefs p) (all-imply (Canon b n) (Depth n) (Canon_Depth b n) (coefs p) d.3)))
+Canon-Depth b zero p d = d
+Canon-Depth b (suc n) p d = subst (Depth (suc n)) (sym d.0) (Depth-from_coefs n (coefs p) (depths n (coefs p) (all-imply (Canon b n) (Depth n) (Canon-Depth b n) (coefs p) d.3)))
 
-pub Canon_zero_poly : (b n : ℕ) → Canon b n (zero_poly n)
+pub Canon-zero_poly : (b n : ℕ) → Canon b n (zero_poly n)
 unfolding Canon coefs from_coefs Trimmed AllOf Depth
-Canon_zero_poly b zero = tt
-Canon_zero_poly b (suc n) = (refl, omega arith, tt, tt)
+Canon-zero_poly b zero = tt
+Canon-zero_poly b (suc n) = (refl, omega arith, tt, tt)
 
-pub Canon_constant : (b n : ℕ) (z : ℤ) → 1 ≤ b → Canon b n (constant n z)
+pub Canon-constant : (b n : ℕ) (z : ℤ) → 1 ≤ b → Canon b n (constant n z)
 unfolding constant
-Canon_constant b zero z l = unfold Canon Depth in tt
-Canon_constant b (suc n) z l = canon_trimmed b n (constant n z ∷ []) l (all_one (Canon b n) (constant n z) (Canon_constant b n z l))
+Canon-constant b zero z l = unfold Canon Depth in tt
+Canon-constant b (suc n) z l = canon_trimmed b n (constant n z ∷ []) l (all_one (Canon b n) (constant n z) (Canon-constant b n z l))
 
 is_zero-one : (n : ℕ) → is_zero (constant n (pos 1)) ≡ false
 unfolding constant trim all_zero from_coefs
 is_zero-one zero = refl
 is_zero-one (suc n) = ap (λ b. is_zero (from_coefs (cond (b && true) [] (constant n (pos 1) ∷ [])))) (is_zero-one n)
 
-pub Canon_variable : (b n i : ℕ) → 2 ≤ b → Canon b n (variable n i)
+pub Canon-variable : (b n i : ℕ) → 2 ≤ b → Canon b n (variable n i)
 unfolding variable
-Canon_variable b zero i l = unfold Canon Depth in tt
-Canon_variable b (suc n) zero l =
+Canon-variable b zero i l = unfold Canon Depth in tt
+Canon-variable b (suc n) zero l =
     let cs = zero_poly n ∷ constant n (pos 1) ∷ [] in
-    let d : AllOf (Canon b n) cs = unfold AllOf in (Canon_zero_poly b n, (Canon_constant b n (pos 1) (omega arith), tt)) in
+    let d : AllOf (Canon b n) cs = unfold AllOf in (Canon-zero_poly b n, (Canon-constant b n (pos 1) (omega arith), tt)) in
     let e : trim cs ≡ cs = trimmed_is cs (unfold Trimmed all_zero in (last (is_zero (zero_poly n)), (one, tt))) in
     subst (λ ds. Canon b (suc n) (from_coefs ds)) e (canon_trimmed b n cs l d)
   where
@@ -128,7 +128,7 @@ Canon_variable b (suc n) zero l =
     last : (a : Bool) → T (not (a && (is_zero (constant n (pos 1)) && true)))
     last true = one
     last false = tt
-Canon_variable b (suc n) (suc i) l = canon_trimmed b n (variable n i ∷ []) (omega arith) (all_one (Canon b n) (variable n i) (Canon_variable b n i l))
+Canon-variable b (suc n) (suc i) l = canon_trimmed b n (variable n i ∷ []) (omega arith) (all_one (Canon b n) (variable n i) (Canon-variable b n i l))
 
 -- sums
 pub all-sum_by : (P : Poly → Type 0) (f : Poly → Poly → Poly) → ((x y : Poly) → P x → P y → P (f x y)) → (p q : List Poly) → AllOf P p → AllOf P q → AllOf P (sum_by f p q)
@@ -143,12 +143,12 @@ length-sum_by b f [] q l m = m
 length-sum_by b f (x ∷ p) [] l m = l
 length-sum_by b f (x ∷ p) (y ∷ q) l m = let ih = length-sum_by (b - 1) f p q (omega arith) (omega arith) in omega arith
 
-pub Canon_sum : (b n : ℕ) (p q : Poly) → Canon b n p → Canon b n q → Canon b n (sum n p q)
+pub Canon-sum : (b n : ℕ) (p q : Poly) → Canon b n p → Canon b n q → Canon b n (sum n p q)
 unfolding Canon sum
-Canon_sum b zero p q d k = unfold Depth in tt
-Canon_sum b (suc n) p q d k =
+Canon-sum b zero p q d k = unfold Depth in tt
+Canon-sum b (suc n) p q d k =
     canon_trimmed b n (sum_by (sum n) (coefs p) (coefs q)) (length-sum_by b (sum n) (coefs p) (coefs q) d.1 k.1)
-    (all-sum_by (Canon b n) (sum n) (Canon_sum b n) (coefs p) (coefs q) d.3 k.3)
+    (all-sum_by (Canon b n) (sum n) (Canon-sum b n) (coefs p) (coefs q) d.3 k.3)
 
 -- products
 length-map : (g : Poly → Poly) (cs : List Poly) → length (map_poly g cs) ≡ length cs
@@ -170,19 +170,19 @@ all-product_by P A B f g z hz hf hg [] q d k = tt
 all-product_by P A B f g z hz hf hg (x ∷ p) q d k =
     all-sum_by P f hf (map_poly (g x) q) (z ∷ product_by f g z p q) (all_map B P (g x) (λ y. hg x y d.0) q k) (hz, all-product_by P A B f g z hz hf hg p q d.1 k)
 
-pub Canon_product : (a b n : ℕ) (p q : Poly) → Canon a n p → Canon (suc b) n q → Canon (a + b) n (product n p q)
+pub Canon-product : (a b n : ℕ) (p q : Poly) → Canon a n p → Canon (suc b) n q → Canon (a + b) n (product n p q)
 unfolding Canon product
-Canon_product a b zero p q d k = unfold Depth in tt
-Canon_product a b (suc n) p q d k =
+Canon-product a b zero p q d k = unfold Depth in tt
+Canon-product a b (suc n) p q d k =
     canon_trimmed (a + b) n (product_by (sum n) (product n) (zero_poly n) (coefs p) (coefs q))
     (omega (arith, d.1, length-product_by b (sum n) (product n) (zero_poly n) (coefs p) (coefs q) k.1))
-    (all-product_by (Canon (a + b) n) (Canon a n) (Canon (suc b) n) (sum n) (product n) (zero_poly n) (Canon_zero_poly (a + b) n) (Canon_sum (a + b) n) (Canon_product a b n) (coefs p) (coefs q) d.3 k.3)
+    (all-product_by (Canon (a + b) n) (Canon a n) (Canon (suc b) n) (sum n) (product n) (zero_poly n) (Canon-zero_poly (a + b) n) (Canon-sum (a + b) n) (Canon-product a b n) (coefs p) (coefs q) d.3 k.3)
 
 -- a list of coefficients, each times c
 pub canon-times : (a b n : ℕ) (c : Poly) (cs : List Poly) → 1 ≤ a → Canon a n c → length cs ≤ suc b → AllOf (Canon (suc b) n) cs → Canon (a + b) (suc n) (from_coefs (trim (map_poly (product n c) cs)))
 canon-times a b n c cs l h m d =
     canon_trimmed (a + b) n (map_poly (product n c) cs) (omega (arith, length-map (product n c) cs))
-    (all_map (Canon (suc b) n) (Canon (a + b) n) (product n c) (λ x. Canon_product a b n c x h) cs d)
+    (all_map (Canon (suc b) n) (Canon (a + b) n) (product n c) (λ x. Canon-product a b n c x h) cs d)
 
 -- negatives
 is_zero-neg : (z : ℤ) → is_zero_number (neg_ℤ z) ≡ is_zero_number z
@@ -219,12 +219,12 @@ trimmed_negative b n (c ∷ cs) d t = (subst (λ b. T (not b)) (sym (whole d)) t
 pub canon-coefs : (b n : ℕ) (cs : List Poly) → length cs ≤ b → Trimmed cs → AllOf (Canon b n) cs → Canon b (suc n) (from_coefs cs)
 canon-coefs b n cs l t d = subst (λ ds. Canon b (suc n) (from_coefs ds)) (trimmed_is cs t) (canon_trimmed b n cs l d)
 
-pub Canon_negative : (b n : ℕ) (p : Poly) → Canon b n p → Canon b n (negative n p)
+pub Canon-negative : (b n : ℕ) (p : Poly) → Canon b n p → Canon b n (negative n p)
 unfolding Canon negative
-Canon_negative b zero p d = Depth_negative zero p d
-Canon_negative b (suc n) p d =
+Canon-negative b zero p d = Depth-negative zero p d
+Canon-negative b (suc n) p d =
     canon-coefs b n (map_poly (negative n) (coefs p)) (omega (arith, d.1, length-map (negative n) (coefs p))) (trimmed_negative b n (coefs p) d.3 d.2)
-    (all_map (Canon b n) (Canon b n) (negative n) (Canon_negative b n) (coefs p) d.3)
+    (all_map (Canon b n) (Canon b n) (negative n) (Canon-negative b n) (coefs p) d.3)
 
 -- the first variable
 pub all-last : (P : Poly → Type 0) (c : Poly) (cs : List Poly) → P c → AllOf P cs → P (last_or c cs)
@@ -232,9 +232,9 @@ unfolding AllOf last_or
 all-last P c [] h d = h
 all-last P c (e ∷ cs) h d = all-last P e cs d.0 d.1
 
-pub Canon_leading : (b n : ℕ) (p : Poly) → Canon b (suc n) p → Canon b n (leading n p)
+pub Canon-leading : (b n : ℕ) (p : Poly) → Canon b (suc n) p → Canon b n (leading n p)
 unfolding Canon
-Canon_leading b n p d = all-last (Canon b n) (zero_poly n) (coefs p) (Canon_zero_poly b n) d.3
+Canon-leading b n p d = all-last (Canon b n) (zero_poly n) (coefs p) (Canon-zero_poly b n) d.3
 
 pub all-without_last : (P : Poly → Type 0) (cs : List Poly) → AllOf P cs → AllOf P (without_last cs)
 unfolding AllOf without_last
@@ -248,25 +248,25 @@ length-without_last [] = omega arith
 length-without_last (c ∷ []) = omega arith
 length-without_last (c ∷ e ∷ cs) = let ih = length-without_last (e ∷ cs) in omega arith
 
-pub Canon_without_leading : (b n : ℕ) (p : Poly) → Canon b (suc n) p → Canon b (suc n) (without_leading p)
+pub Canon-without_leading : (b n : ℕ) (p : Poly) → Canon b (suc n) p → Canon b (suc n) (without_leading p)
 unfolding Canon
-Canon_without_leading b n p d = canon_trimmed b n (without_last (coefs p)) (omega (arith, d.1, length-without_last (coefs p))) (all-without_last (Canon b n) (coefs p) d.3)
+Canon-without_leading b n p d = canon_trimmed b n (without_last (coefs p)) (omega (arith, d.1, length-without_last (coefs p))) (all-without_last (Canon b n) (coefs p) d.3)
 
 all-scaled : (b n k : ℕ) (cs : List Poly) → AllOf (Canon (suc b) n) cs → AllOf (Canon (suc b) n) (scaled n k cs)
 unfolding AllOf scaled
 all-scaled b n k [] d = tt
 all-scaled b n k (c ∷ cs) d =
     let e : 1 + b ≡ suc b = omega arith in
-    (subst (λ i. Canon i n (product n (constant n (pos k)) c)) e (Canon_product 1 b n (constant n (pos k)) c (Canon_constant 1 n (pos k) (omega arith)) d.0), all-scaled b n (k + 1) cs d.1)
+    (subst (λ i. Canon i n (product n (constant n (pos k)) c)) e (Canon-product 1 b n (constant n (pos k)) c (Canon-constant 1 n (pos k) (omega arith)) d.0), all-scaled b n (k + 1) cs d.1)
 
 length_scaled : (n k : ℕ) (cs : List Poly) → length (scaled n k cs) ≡ length cs
 unfolding scaled
 length_scaled n k [] = refl
 length_scaled n k (c ∷ cs) = ap suc (length_scaled n (k + 1) cs)
 
-pub Canon_derivative : (b n : ℕ) (p : Poly) → Canon (suc b) (suc n) p → Canon (suc b) (suc n) (derivative n p)
+pub Canon-derivative : (b n : ℕ) (p : Poly) → Canon (suc b) (suc n) p → Canon (suc b) (suc n) (derivative n p)
 unfolding Canon
-Canon_derivative b n p d = go (coefs p) d.1 d.3
+Canon-derivative b n p d = go (coefs p) d.1 d.3
   where
     go : (cs : List Poly) → length cs ≤ suc b → AllOf (Canon (suc b) n) cs → Canon (suc b) (suc n) (from_coefs (trim (scaled n 1 (without_first cs))))
     go [] l d = canon_trimmed (suc b) n (scaled n 1 []) (omega (arith, length_scaled n 1 [])) (all-scaled b n 1 [] d)
@@ -275,19 +275,19 @@ Canon_derivative b n p d = go (coefs p) d.1 d.3
 all-shifted : (b n k : ℕ) (cs : List Poly) → AllOf (Canon b n) cs → AllOf (Canon b n) (shifted n k cs)
 unfolding AllOf shifted
 all-shifted b n zero cs d = d
-all-shifted b n (suc k) cs d = (Canon_zero_poly b n, all-shifted b n k cs d)
+all-shifted b n (suc k) cs d = (Canon-zero_poly b n, all-shifted b n k cs d)
 
 length-shifted : (n k : ℕ) (cs : List Poly) → length (shifted n k cs) ≡ k + length cs
 unfolding shifted
 length-shifted n zero cs = omega arith
 length-shifted n (suc k) cs = let ih = length-shifted n k cs in omega arith
 
-pub Canon_division_step : (b n : ℕ) (p s : Poly) → Canon (suc b) (suc n) p → Canon (suc b) (suc n) s → Canon (suc b + b) (suc n) (division_step n p s)
+pub Canon-division_step : (b n : ℕ) (p s : Poly) → Canon (suc b) (suc n) p → Canon (suc b) (suc n) s → Canon (suc b + b) (suc n) (division_step n p s)
 unfolding Canon
-Canon_division_step b n p s d h =
+Canon-division_step b n p s d h =
     let k = length (coefs s) - length (coefs p) in
     let m = shifted n k (coefs p) in
-    Canon_sum (suc b + b) (suc n) (from_coefs (trim (map_poly (product n (leading n p)) (coefs s)))) (negative (suc n) (from_coefs (trim (map_poly (product n (leading n s)) m))))
-    (canon-times (suc b) b n (leading n p) (coefs s) (omega arith) (Canon_leading (suc b) n p d) h.1 h.3)
-    (Canon_negative (suc b + b) (suc n) (from_coefs (trim (map_poly (product n (leading n s)) m)))
-    (canon-times (suc b) b n (leading n s) m (omega arith) (Canon_leading (suc b) n s h) (omega (arith, d.1, h.1, length-shifted n k (coefs p))) (all-shifted (suc b) n k (coefs p) d.3)))
+    Canon-sum (suc b + b) (suc n) (from_coefs (trim (map_poly (product n (leading n p)) (coefs s)))) (negative (suc n) (from_coefs (trim (map_poly (product n (leading n s)) m))))
+    (canon-times (suc b) b n (leading n p) (coefs s) (omega arith) (Canon-leading (suc b) n p d) h.1 h.3)
+    (Canon-negative (suc b + b) (suc n) (from_coefs (trim (map_poly (product n (leading n s)) m)))
+    (canon-times (suc b) b n (leading n s) m (omega arith) (Canon-leading (suc b) n s h) (omega (arith, d.1, h.1, length-shifted n k (coefs p))) (all-shifted (suc b) n k (coefs p) d.3)))

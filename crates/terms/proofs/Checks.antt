@@ -9,7 +9,7 @@ use Rattle.poly.specs.Modest.{every_by, small, number_count, modest, Checked, To
 use Rattle.poly.specs.Division.{division_step, Division, divide, odd, exchanged, remainder}
 use Rattle.terms.specs.Canon.{AllOf, Canon}
 use Rattle.terms.proofs.Tests.{T-both}
-use Rattle.terms.proofs.Canons.{Canon_constant, Canon_variable, Canon_sum, Canon_product, Canon_negative, Canon_division_step}
+use Rattle.terms.proofs.Canons.{Canon-constant, Canon-variable, Canon-sum, Canon-product, Canon-negative, Canon-division_step}
 
 all_small : (P Q : Poly → Type 0) (f : Poly → Bool) → ((c : Poly) → P c → T (f c) → Q c) → (cs : List Poly) → AllOf P cs → T (every_by f cs) → AllOf Q cs
 unfolding AllOf every_by
@@ -23,14 +23,14 @@ Canon-small b (suc n) p d t =
     let (l, e) = T-both (leb (length (coefs p)) 9) (every_by (small n) (coefs p)) t in
     (d.0, leb→le (length (coefs p)) 9 l, d.2, all_small (Canon b n) (Canon 9 n) (small n) (Canon-small b n) (coefs p) d.3 e)
 
-pub Canon_modest : (b n : ℕ) (p : Poly) → Canon b n p → T (modest n p) → Canon 9 n p
-Canon_modest b n p d t = Canon-small b n p d (T-both (small n p) (leb (number_count n p) 64) t).0
+pub Canon-modest : (b n : ℕ) (p : Poly) → Canon b n p → T (modest n p) → Canon 9 n p
+Canon-modest b n p d t = Canon-small b n p d (T-both (small n p) (leb (number_count n p) 64) t).0
 
 never_fine : {A : Type 0} (p : Poly) → TooBig ≡ Fine p → A
 never_fine p e = let z : ◌≡◌ {A = ℕ} 0 1 = cc in absurd (omega arith)
 
 Canon-checked : (b n : ℕ) (q p : Poly) → Canon b n q → checked n q ≡ Fine p → Canon 9 n p
-Canon-checked b n q p d = fine (modest n q) (Canon_modest b n q d)
+Canon-checked b n q p d = fine (modest n q) (Canon-modest b n q d)
   where
     fine : (m : Bool) → (T m → Canon 9 n q) → cond m (Fine q) TooBig ≡ Fine p → Canon 9 n p
     fine true h e = subst (Canon 9 n) (cc) (h tt)
@@ -42,19 +42,19 @@ Canon-both b n op h TooBig y hx hy r e = never_fine r e
 Canon-both b n op h (Fine p) TooBig hx hy r e = never_fine r e
 Canon-both b n op h (Fine p) (Fine q) hx hy r e = Canon-checked b n (op p q) r (h p q (hx p refl) (hy q refl)) e
 
-pub Canon_term : (n : ℕ) (t : Term) (p : Poly) → term_poly n t ≡ Fine p → Canon 9 n p
+pub Canon-term : (n : ℕ) (t : Term) (p : Poly) → term_poly n t ≡ Fine p → Canon 9 n p
 unfolding term_poly
-Canon_term n (Var i) p e = Canon-checked 2 n (variable n i) p (Canon_variable 2 n i (omega arith)) e
-Canon_term n (Num z) p e = Canon-checked 1 n (constant n z) p (Canon_constant 1 n z (omega arith)) e
-Canon_term n (Sum s t) p e = Canon-both 9 n (sum n) (Canon_sum 9 n) (term_poly n s) (term_poly n t) (Canon_term n s) (Canon_term n t) p e
-Canon_term n (Product s t) p e = Canon-both 17 n (product n) (Canon_product 9 8 n) (term_poly n s) (term_poly n t) (Canon_term n s) (Canon_term n t) p e
+Canon-term n (Var i) p e = Canon-checked 2 n (variable n i) p (Canon-variable 2 n i (omega arith)) e
+Canon-term n (Num z) p e = Canon-checked 1 n (constant n z) p (Canon-constant 1 n z (omega arith)) e
+Canon-term n (Sum s t) p e = Canon-both 9 n (sum n) (Canon-sum 9 n) (term_poly n s) (term_poly n t) (Canon-term n s) (Canon-term n t) p e
+Canon-term n (Product s t) p e = Canon-both 17 n (product n) (Canon-product 9 8 n) (term_poly n s) (term_poly n t) (Canon-term n s) (Canon-term n t) p e
 
 pub Canon-divide : (fuel n : ℕ) (p s : Poly) (k : ℕ) → Canon 9 (suc n) p → Canon 9 (suc n) s → Canon 9 (suc n) (divide fuel n p s k).rest
 unfolding divide
 Canon-divide zero n p s k d h = h
 Canon-divide (suc fuel) n p s k d h =
     let r = division_step n p s in
-    stops (ltb (length (coefs s)) (length (coefs p))) (modest (suc n) r) (λ t. Canon-divide fuel n p r (k + 1) d (Canon_modest 17 (suc n) r (Canon_division_step 8 n p s d h) t))
+    stops (ltb (length (coefs s)) (length (coefs p))) (modest (suc n) r) (λ t. Canon-divide fuel n p r (k + 1) d (Canon-modest 17 (suc n) r (Canon-division_step 8 n p s d h) t))
   where
     stops : (b m : Bool) → (T m → Canon 9 (suc n) (divide fuel n p (division_step n p s) (k + 1)).rest) → Canon 9 (suc n) (elim b as (λ _. Division) [ true ↦ record { good = true; steps = k; rest = s } | false ↦ elim m [ true ↦ divide fuel n p (division_step n p s) (k + 1) | false ↦ record { good = false; steps = k; rest = s } ] ]).rest
     stops true m g = h
@@ -62,13 +62,13 @@ Canon-divide (suc fuel) n p s k d h =
     stops false false g = h
 
 pub Canon-exchanged : (b n : ℕ) (c : Bool) (h : Sign) (r : Poly) → Canon b (suc n) r → Canon b (suc n) (exchanged n c h r)
-Canon-exchanged b n true Neg r d = Canon_negative b (suc n) r d
+Canon-exchanged b n true Neg r d = Canon-negative b (suc n) r d
 Canon-exchanged b n true Zero r d = d
 Canon-exchanged b n true Pos r d = d
 Canon-exchanged b n false h r d = d
 
-pub Canon_remainder : (n : ℕ) (h : Sign) (p s r : Poly) → Canon 9 (suc n) p → Canon 9 (suc n) s → remainder n h p s ≡ Fine r → Canon 9 (suc n) r
-Canon_remainder n h p s r d k =
+pub Canon-remainder : (n : ℕ) (h : Sign) (p s r : Poly) → Canon 9 (suc n) p → Canon 9 (suc n) s → remainder n h p s ≡ Fine r → Canon 9 (suc n) r
+Canon-remainder n h p s r d k =
     let v = divide (length (coefs s) + 1) n p s 0 in
     kept v.good (exchanged n (odd v.steps) h v.rest) (Canon-exchanged 9 n (odd v.steps) h v.rest (Canon-divide (length (coefs s) + 1) n p s 0 d k))
   where

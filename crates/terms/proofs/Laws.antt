@@ -19,21 +19,21 @@ flat_laws = record { rising_unique = rises.rising_unique; flat_rising = flats.fl
 pub canon_laws : CanonLaws
 canon_laws =
     record {
-      Canon_wider = canons.Canon_wider;
-      Canon_Depth = canons.Canon_Depth;
-      Canon_zero_poly = canons.Canon_zero_poly;
-      Canon_constant = canons.Canon_constant;
-      Canon_variable = canons.Canon_variable;
-      Canon_sum = canons.Canon_sum;
-      Canon_product = λ a. canons.Canon_product (suc a);
-      Canon_negative = canons.Canon_negative;
-      Canon_leading = canons.Canon_leading;
-      Canon_without_leading = canons.Canon_without_leading;
-      Canon_derivative = canons.Canon_derivative;
-      Canon_division_step = canons.Canon_division_step;
-      Canon_modest = checks.Canon_modest;
-      Canon_term = checks.Canon_term;
-      Canon_remainder = checks.Canon_remainder;
+      Canon-wider = canons.Canon-wider;
+      Canon-Depth = canons.Canon-Depth;
+      Canon-zero_poly = canons.Canon-zero_poly;
+      Canon-constant = canons.Canon-constant;
+      Canon-variable = canons.Canon-variable;
+      Canon-sum = canons.Canon-sum;
+      Canon-product = λ a. canons.Canon-product (suc a);
+      Canon-negative = canons.Canon-negative;
+      Canon-leading = canons.Canon-leading;
+      Canon-without_leading = canons.Canon-without_leading;
+      Canon-derivative = canons.Canon-derivative;
+      Canon-division_step = canons.Canon-division_step;
+      Canon-modest = checks.Canon-modest;
+      Canon-term = checks.Canon-term;
+      Canon-remainder = checks.Canon-remainder;
     }
 
 pub flat_operation_laws : FlatOperationLaws

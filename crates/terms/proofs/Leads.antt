@@ -14,7 +14,7 @@ use Rattle.terms.proofs.Integers.{positive}
 use Rattle.terms.proofs.Rises.{rising_wider, rising-raised}
 use Rattle.terms.proofs.Merges.{add_none}
 use Rattle.terms.proofs.Split.{below_split, from_split, lowered-raised}
-use Rattle.terms.proofs.Canons.{all-last, all-without_last, length-without_last, Canon_constant}
+use Rattle.terms.proofs.Canons.{all-last, all-without_last, length-without_last, Canon-constant}
 use Rattle.terms.proofs.Flat.{flats, flat-coefs, flat_trimmed, flat_zero, zero_is, zero_flat, flat_rising, rising_list, other_flats}
 use Rattle.terms.proofs.Sums.{constant_not_zero, raised-append, flat_product}
 use Rattle.terms.proofs.Variables.{flats_one, flat_constant}
@@ -166,7 +166,7 @@ slopes-one n j lo (m ∷ s) r =
 
 flat-times : (b n k : ℕ) (c : Poly) → suc b ≤ 32 → Canon (suc b) n c → flat n (product n (constant n (pos (suc k))) c) ≡ scale_terms 0 (pos (suc k)) (flat n c)
 flat-times b n k c l d =
-    flat_product 0 b n (constant n (pos (suc k))) c (omega arith) (Canon_constant 1 n (pos (suc k)) (omega arith)) d ∙ ap (λ ts. mul_terms ts (flat n c)) (flat_constant n (pos (suc k)) ∙ constant_not_zero (pos (suc k)) (positive (suc k) (omega arith)))
+    flat_product 0 b n (constant n (pos (suc k))) c (omega arith) (Canon-constant 1 n (pos (suc k)) (omega arith)) d ∙ ap (λ ts. mul_terms ts (flat n c)) (flat_constant n (pos (suc k)) ∙ constant_not_zero (pos (suc k)) (positive (suc k) (omega arith)))
     ∙ once
   where
     once : mul_terms (monomial 0 (pos (suc k)) ∷ []) (flat n c) ≡ scale_terms 0 (pos (suc k)) (flat n c)

@@ -16,12 +16,12 @@ use Rattle.terms.specs.DivisionTerms.{step_terms, DivisionTerms, divide_terms, e
 use Rattle.terms.specs.Canon.{Canon}
 use Rattle.terms.proofs.Coefficients.{here, Alike, coefficient_cons, coefficient_nil, coefficient-append}
 use Rattle.terms.proofs.Rises.{rising_wider, rising-raised, rising-neg, rising_unique, rising-product}
-use Rattle.terms.proofs.Canons.{Canon_leading, Canon_division_step}
+use Rattle.terms.proofs.Canons.{Canon-leading, Canon-division_step}
 use Rattle.terms.proofs.Flat.{flats, flat-coefs, flat_trimmed, flat_zero, zero_is, flat_rising}
 use Rattle.terms.proofs.Sums.{alike_sum, neg-append, flat_negative, all_products, alike_add_product, products-raised_left, products-raised_right, alike_times, alike_product}
 use Rattle.terms.proofs.Leads.{raised_zero, raised-raised, flat_length, flat_leading}
 use Rattle.terms.proofs.Modests.{flat_modest}
-use Rattle.terms.proofs.Checks.{Canon_modest}
+use Rattle.terms.proofs.Checks.{Canon-modest}
 
 -- negatives
 neg_mul : (x y : ℤ) → neg_ℤ x *ℤ y ≡ neg_ℤ (x *ℤ y)
@@ -108,8 +108,8 @@ flat_division_step b n p s l d h =
     let q : suc b ≤ 32 = omega arith in
     let nested = add_product (neg_terms (raised (k * g) (flat n (leading n s)))) (flat (suc n) p) (mul_terms (flat n (leading n p)) (flat (suc n) s)) in
     rising_unique 0 hi (flat (suc n) (division_step n p s)) nested
-    (rising_wider 0 (32 ^ suc n) 0 hi (flat (suc n) (division_step n p s)) (omega arith) (omega arith) (flat_rising (suc b + b) (suc n) (division_step n p s) l (Canon_division_step b n p s d h)))
-    (step-rising (suc b) n k (leading n p) (leading n s) p s q (Canon_leading (suc b) n p d) (Canon_leading (suc b) n s h) d h)
+    (rising_wider 0 (32 ^ suc n) 0 hi (flat (suc n) (division_step n p s)) (omega arith) (omega arith) (flat_rising (suc b + b) (suc n) (division_step n p s) l (Canon-division_step b n p s d h)))
+    (step-rising (suc b) n k (leading n p) (leading n s) p s q (Canon-leading (suc b) n p d) (Canon-leading (suc b) n s h) d h)
     (alike_step n k (leading n p) (leading n s) p s)
     ∙ ap₂ (λ i ts. add_product (neg_terms (raised (i * g) ts)) (flat (suc n) p) (mul_terms (flat n (leading n p)) (flat (suc n) s))) (ap₂ ◌-◌ (flat_length (suc b) n s q h) (flat_length (suc b) n p q d)) (flat_leading (suc b) n s q h)
     ∙ ap (λ ts. add_product (neg_terms (raised ((length_terms n (flat (suc n) s) - length_terms n (flat (suc n) p)) * g) (leading_terms n (flat (suc n) s)))) (flat (suc n) p) (mul_terms ts (flat (suc n) s))) (flat_leading (suc b) n p q d)
@@ -128,12 +128,12 @@ flat_divide (suc fuel) n p s k d h =
     let l : 9 ≤ 32 = omega arith in
     let l17 : 17 ≤ 32 = omega arith in
     let r = division_step n p s in
-    let c : Canon 17 (suc n) r = Canon_division_step 8 n p s d h in
+    let c : Canon 17 (suc n) r = Canon-division_step 8 n p s d h in
     let step : flat (suc n) r ≡ step_terms n (flat (suc n) p) (flat (suc n) s) = flat_division_step 8 n p s l17 d h in
     let test : ltb (length (coefs s)) (length (coefs p)) ≡ ltb (length_terms n (flat (suc n) s)) (length_terms n (flat (suc n) p)) = ap₂ ltb (flat_length 9 n s l h) (flat_length 9 n p l d) in
     let fits : modest (suc n) r ≡ modest_terms (suc n) (step_terms n (flat (suc n) p) (flat (suc n) s)) = flat_modest 17 (suc n) r l17 c ∙ ap (modest_terms (suc n)) step in
     subst (Agree n (nested (ltb (length (coefs s)) (length (coefs p))) (modest (suc n) r))) (λ i. on_terms (test i) (fits i) (step i))
-    (agrees (ltb (length (coefs s)) (length (coefs p))) (modest (suc n) r) (λ t. flat_divide fuel n p r (k + 1) d (Canon_modest 17 (suc n) r c t)))
+    (agrees (ltb (length (coefs s)) (length (coefs p))) (modest (suc n) r) (λ t. flat_divide fuel n p r (k + 1) d (Canon-modest 17 (suc n) r c t)))
   where
     nested : (b m : Bool) → Division
     nested b m = elim b as (λ _. Division) [ true ↦ record { good = true; steps = k; rest = s } | false ↦ elim m [ true ↦ divide fuel n p (division_step n p s) (k + 1) | false ↦ record { good = false; steps = k; rest = s } ] ]

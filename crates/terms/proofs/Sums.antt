@@ -9,7 +9,7 @@ use Rattle.terms.specs.Canon.{Canon}
 use Rattle.terms.proofs.Integers.{NotZero, not_zero, not_zero_neg, not_zero_mul}
 use Rattle.terms.proofs.Coefficients.{Alike, coefficient_cons, coefficient_nil, coefficient-append, alike_append, alike_exchange, alike_raised, alike_add}
 use Rattle.terms.proofs.Rises.{rising_wider, rising-add, rising_unique, rising-product}
-use Rattle.terms.proofs.Canons.{Canon_sum, Canon_product}
+use Rattle.terms.proofs.Canons.{Canon-sum, Canon-product}
 use Rattle.terms.proofs.Flat.{flats, flat-coefs, flat-from_coefs, flat_trimmed, constant_cases, flat_zero, zero_is, flat_rising}
 
 constant_zero : constant_terms (pos 0) ≡ []
@@ -62,7 +62,7 @@ alike_sum (suc n) p q k =
 
 pub flat_sum : (b n : ℕ) (p q : Poly) → b ≤ 32 → Canon b n p → Canon b n q → flat n (sum n p q) ≡ add_terms (flat n p) (flat n q)
 flat_sum b n p q l d k =
-    rising_unique 0 (32 ^ n) (flat n (sum n p q)) (add_terms (flat n p) (flat n q)) (flat_rising b n (sum n p q) l (Canon_sum b n p q d k))
+    rising_unique 0 (32 ^ n) (flat n (sum n p q)) (add_terms (flat n p) (flat n q)) (flat_rising b n (sum n p q) l (Canon-sum b n p q d k))
     (rising-add 0 (32 ^ n) (flat n p) (flat n q) (flat_rising b n p l d) (flat_rising b n q l k))
     (λ j. alike_sum n p q j ∙ sym (alike_add (flat n p) (flat n q) j))
 
@@ -202,6 +202,6 @@ pub flat_product : (a b n : ℕ) (p q : Poly) → suc a + b ≤ 32 → Canon (su
 flat_product a b n p q l d k =
     let g = 32 ^ n in
     rising_unique 0 (g + g) (flat n (product n p q)) (mul_terms (flat n p) (flat n q))
-    (rising_wider 0 g 0 (g + g) (flat n (product n p q)) (omega arith) (omega arith) (flat_rising (suc a + b) n (product n p q) l (Canon_product (suc a) b n p q d k)))
+    (rising_wider 0 g 0 (g + g) (flat n (product n p q)) (omega arith) (omega arith) (flat_rising (suc a + b) n (product n p q) l (Canon-product (suc a) b n p q d k)))
     (rising-product 0 g g (flat n p) (flat n q) [] (flat_rising (suc a) n p (omega arith) d) (flat_rising (suc b) n q (omega arith) k) (unfold Rising in tt))
     (λ j. alike_product n p q j ∙ sym (alike_add_product (flat n p) (flat n q) [] j ∙ ap (coefficient_at j) (append-nil (all_products (flat n p) (flat n q)))))

@@ -10,7 +10,7 @@ use Rattle.terms.specs.Operations.{neg_terms, variable_terms, same_terms}
 use Rattle.terms.specs.Canon.{AllOf, Canon}
 use Rattle.terms.proofs.Tests.{T-same, T_true, T-both, both_T, eq→eqb, ltb-same}
 use Rattle.terms.proofs.Integers.{add_cancel, is_zero_lem}
-use Rattle.terms.proofs.Canons.{Canon_negative}
+use Rattle.terms.proofs.Canons.{Canon-negative}
 use Rattle.terms.proofs.Flat.{flats, flat-from_coefs, flat_trimmed, flat_zero, zero_is, flat_unique}
 use Rattle.terms.proofs.Sums.{flat_negative}
 
@@ -106,4 +106,4 @@ flat_same b n p q l d k =
     (λ t. subst (λ r. T (same n p r)) (flat_unique b n p q l d k (same_terms-equal (flat n p) (flat n q) t)) (same_refl n p))
 
 pub flat_same_negative : (b n : ℕ) (p q : Poly) → b ≤ 32 → Canon b n p → Canon b n q → same n (negative n p) q ≡ same_terms (neg_terms (flat n p)) (flat n q)
-flat_same_negative b n p q l d k = flat_same b n (negative n p) q l (Canon_negative b n p d) k ∙ ap (λ ts. same_terms ts (flat n q)) (flat_negative n p)
+flat_same_negative b n p q l d k = flat_same b n (negative n p) q l (Canon-negative b n p d) k ∙ ap (λ ts. same_terms ts (flat n q)) (flat_negative n p)

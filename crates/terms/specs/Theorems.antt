@@ -27,21 +27,21 @@ pub record FlatLaws : Type 0 where
 
 -- What is made of polynomials whose lists are trimmed and not long.
 pub record CanonLaws : Type 0 where
-  pub Canon_wider : (a b n : ℕ) (p : Poly) → a ≤ b → Canon a n p → Canon b n p
-  pub Canon_Depth : (b n : ℕ) (p : Poly) → Canon b n p → Depth n p
-  pub Canon_zero_poly : (b n : ℕ) → Canon b n (zero_poly n)
-  pub Canon_constant : (b n : ℕ) (z : ℤ) → 1 ≤ b → Canon b n (constant n z)
-  pub Canon_variable : (b n i : ℕ) → 2 ≤ b → Canon b n (variable n i)
-  pub Canon_sum : (b n : ℕ) (p q : Poly) → Canon b n p → Canon b n q → Canon b n (sum n p q)
-  pub Canon_product : (a b n : ℕ) (p q : Poly) → Canon (suc a) n p → Canon (suc b) n q → Canon (suc a + b) n (product n p q)
-  pub Canon_negative : (b n : ℕ) (p : Poly) → Canon b n p → Canon b n (negative n p)
-  pub Canon_leading : (b n : ℕ) (p : Poly) → Canon b (suc n) p → Canon b n (leading n p)
-  pub Canon_without_leading : (b n : ℕ) (p : Poly) → Canon b (suc n) p → Canon b (suc n) (without_leading p)
-  pub Canon_derivative : (b n : ℕ) (p : Poly) → Canon (suc b) (suc n) p → Canon (suc b) (suc n) (derivative n p)
-  pub Canon_division_step : (b n : ℕ) (p s : Poly) → Canon (suc b) (suc n) p → Canon (suc b) (suc n) s → Canon (suc b + b) (suc n) (division_step n p s)
-  pub Canon_modest : (b n : ℕ) (p : Poly) → Canon b n p → T (modest n p) → Canon 9 n p
-  pub Canon_term : (n : ℕ) (t : Term) (p : Poly) → term_poly n t ≡ Fine p → Canon 9 n p
-  pub Canon_remainder : (n : ℕ) (h : Sign) (p s r : Poly) → Canon 9 (suc n) p → Canon 9 (suc n) s → remainder n h p s ≡ Fine r → Canon 9 (suc n) r
+  pub Canon-wider : (a b n : ℕ) (p : Poly) → a ≤ b → Canon a n p → Canon b n p
+  pub Canon-Depth : (b n : ℕ) (p : Poly) → Canon b n p → Depth n p
+  pub Canon-zero_poly : (b n : ℕ) → Canon b n (zero_poly n)
+  pub Canon-constant : (b n : ℕ) (z : ℤ) → 1 ≤ b → Canon b n (constant n z)
+  pub Canon-variable : (b n i : ℕ) → 2 ≤ b → Canon b n (variable n i)
+  pub Canon-sum : (b n : ℕ) (p q : Poly) → Canon b n p → Canon b n q → Canon b n (sum n p q)
+  pub Canon-product : (a b n : ℕ) (p q : Poly) → Canon (suc a) n p → Canon (suc b) n q → Canon (suc a + b) n (product n p q)
+  pub Canon-negative : (b n : ℕ) (p : Poly) → Canon b n p → Canon b n (negative n p)
+  pub Canon-leading : (b n : ℕ) (p : Poly) → Canon b (suc n) p → Canon b n (leading n p)
+  pub Canon-without_leading : (b n : ℕ) (p : Poly) → Canon b (suc n) p → Canon b (suc n) (without_leading p)
+  pub Canon-derivative : (b n : ℕ) (p : Poly) → Canon (suc b) (suc n) p → Canon (suc b) (suc n) (derivative n p)
+  pub Canon-division_step : (b n : ℕ) (p s : Poly) → Canon (suc b) (suc n) p → Canon (suc b) (suc n) s → Canon (suc b + b) (suc n) (division_step n p s)
+  pub Canon-modest : (b n : ℕ) (p : Poly) → Canon b n p → T (modest n p) → Canon 9 n p
+  pub Canon-term : (n : ℕ) (t : Term) (p : Poly) → term_poly n t ≡ Fine p → Canon 9 n p
+  pub Canon-remainder : (n : ℕ) (h : Sign) (p s r : Poly) → Canon 9 (suc n) p → Canon 9 (suc n) s → remainder n h p s ≡ Fine r → Canon 9 (suc n) r
 
 -- Sums, negatives, products and equality of polynomials by their monomials.
 pub record FlatOperationLaws : Type 0 where
