@@ -6,22 +6,16 @@ ghost use Rattle.decision.specs.Theorems.{Main, OneQuantifier, AnswersRight};
 use field::real_closed::RealClosed;
 
 // Every sentence that is answered yes holds, and every one that is answered no doesn't.
-pub fn whole_stands<F: RealClosed>() -> u8
+pub fn whole_stands<F: RealClosed>()
     ensures { Main F.field }
-{
-    0
-}
+{}
 
 // The same of one quantifier.
-pub fn one_quantifier_stands<F: RealClosed>() -> u8
+pub fn one_quantifier_stands<F: RealClosed>()
     ensures { OneQuantifier F.field }
-{
-    0
-}
+{}
 
 // The same of words and the answers to them.
-pub fn answers_stand<F: RealClosed>() -> u8
+pub fn answers_stand<F: RealClosed>()
     ensures { AnswersRight F.field }
-{
-    0
-}
+{}

@@ -19,3 +19,9 @@ times Pos s = s
 abbrev pub sign_of : ℤ → Sign
 sign_of (pos n) = cond (eqb n 0) Zero Pos
 sign_of (negsuc n) = Neg
+
+-- -1, 0 or 1
+abbrev pub number_of : Sign → ℤ
+number_of Neg = negsuc 0
+number_of Zero = pos 0
+number_of Pos = pos 1

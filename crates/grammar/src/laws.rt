@@ -1,8 +1,6 @@
 // What is known of every text, by what stands at its front.
 ghost use Rattle.grammar.specs.RefusedForGood.{RefusedForGood};
 
-pub fn refused_for_good_stands() -> u8
+pub fn refused_for_good_stands()
     ensures { RefusedForGood }
-{
-    0
-}
+{}

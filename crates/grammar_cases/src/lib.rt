@@ -3,8 +3,6 @@
 
 ghost use Rattle.grammar_cases.specs.Cases.{CasesHold};
 
-pub fn cases_stand() -> u8
+pub fn cases_stand()
     ensures { CasesHold }
-{
-    0
-}
+{}

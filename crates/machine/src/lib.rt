@@ -3,56 +3,38 @@
 
 ghost use Rattle.machine.specs.Theorems.{MakesTable, Ends, LeavesApart, Counts, Collects, GivesUp, EliminatesBySteps, FirstSuffice, StacksMirror};
 
-pub fn table_made_stands() -> u8
+pub fn table_made_stands()
     ensures { MakesTable }
-{
-    0
-}
+{}
 
-pub fn ends_stands() -> u8
+pub fn ends_stands()
     ensures { Ends }
-{
-    0
-}
+{}
 
-pub fn leaves_apart_stands() -> u8
+pub fn leaves_apart_stands()
     ensures { LeavesApart }
-{
-    0
-}
+{}
 
-pub fn counts_stand() -> u8
+pub fn counts_stand()
     ensures { Counts }
-{
-    0
-}
+{}
 
-pub fn collects_stands() -> u8
+pub fn collects_stands()
     ensures { Collects }
-{
-    0
-}
+{}
 
-pub fn gives_up_stands() -> u8
+pub fn gives_up_stands()
     ensures { GivesUp }
-{
-    0
-}
+{}
 
-pub fn elimination_stands() -> u8
+pub fn elimination_stands()
     ensures { EliminatesBySteps }
-{
-    0
-}
+{}
 
-pub fn first_suffice_stands() -> u8
+pub fn first_suffice_stands()
     ensures { FirstSuffice }
-{
-    0
-}
+{}
 
-pub fn stacks_mirror_stands() -> u8
+pub fn stacks_mirror_stands()
     ensures { StacksMirror }
-{
-    0
-}
+{}

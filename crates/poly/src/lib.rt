@@ -5,38 +5,26 @@ ghost use Rattle.poly.specs.Theorems.{DepthLaws, ValueLaws, EqualityLaws, Leadin
 
 use field::real_closed::RealClosed;
 
-pub fn depths_stand() -> u8
+pub fn depths_stand()
     ensures { DepthLaws }
-{
-    0
-}
+{}
 
-pub fn values_stand<F: RealClosed>() -> u8
+pub fn values_stand<F: RealClosed>()
     ensures { ValueLaws F.field }
-{
-    0
-}
+{}
 
-pub fn equality_stands<F: RealClosed>() -> u8
+pub fn equality_stands<F: RealClosed>()
     ensures { EqualityLaws F.field }
-{
-    0
-}
+{}
 
-pub fn leading_stands<F: RealClosed>() -> u8
+pub fn leading_stands<F: RealClosed>()
     ensures { LeadingLaws F.field }
-{
-    0
-}
+{}
 
-pub fn derivative_stands<F: RealClosed>() -> u8
+pub fn derivative_stands<F: RealClosed>()
     ensures { DerivativeLaws F.field }
-{
-    0
-}
+{}
 
-pub fn remainder_stands<F: RealClosed>() -> u8
+pub fn remainder_stands<F: RealClosed>()
     ensures { RemainderLaws F.field }
-{
-    0
-}
+{}

@@ -5,26 +5,18 @@ ghost use Rattle.sign_table.specs.Theorems.{TableDepth, TableRight, RightCovers,
 
 use field::real_closed::RealClosed;
 
-pub fn table_depth_stands() -> u8
+pub fn table_depth_stands()
     ensures { TableDepth }
-{
-    0
-}
+{}
 
-pub fn table_right_stands<F: RealClosed>() -> u8
+pub fn table_right_stands<F: RealClosed>()
     ensures { TableRight F.field }
-{
-    0
-}
+{}
 
-pub fn right_covers_stands<F: RealClosed>() -> u8
+pub fn right_covers_stands<F: RealClosed>()
     ensures { RightCovers F.field }
-{
-    0
-}
+{}
 
-pub fn roots_exactly_stands<F: RealClosed>() -> u8
+pub fn roots_exactly_stands<F: RealClosed>()
     ensures { RootsExactly F.field }
-{
-    0
-}
+{}

@@ -1,8 +1,6 @@
 // What is promised of the arrays.
 ghost use Rattle.stacks.specs.SlotLaws.{SlotLaws};
 
-pub fn slots_stand() -> u8
+pub fn slots_stand()
     ensures { SlotLaws }
-{
-    0
-}
+{}

@@ -1,8 +1,6 @@
 // What sound arrays give to the steps of the machine.
 ghost use Rattle.table_machine.specs.SoundLaws.{SoundLaws};
 
-pub fn sound_stands() -> u8
+pub fn sound_stands()
     ensures { SoundLaws }
-{
-    0
-}
+{}

@@ -3,50 +3,34 @@
 
 ghost use Rattle.terms.specs.Theorems.{FlatLaws, CanonLaws, FlatOperationLaws, FlatLeadingLaws, FlatModestLaws, FlatDivisionLaws, SizeLaws, CellLaws};
 
-pub fn flat_stands() -> u8
+pub fn flat_stands()
     ensures { FlatLaws }
-{
-    0
-}
+{}
 
-pub fn canon_stands() -> u8
+pub fn canon_stands()
     ensures { CanonLaws }
-{
-    0
-}
+{}
 
-pub fn operations_stand() -> u8
+pub fn operations_stand()
     ensures { FlatOperationLaws }
-{
-    0
-}
+{}
 
-pub fn leading_stands() -> u8
+pub fn leading_stands()
     ensures { FlatLeadingLaws }
-{
-    0
-}
+{}
 
-pub fn modest_stands() -> u8
+pub fn modest_stands()
     ensures { FlatModestLaws }
-{
-    0
-}
+{}
 
-pub fn division_stands() -> u8
+pub fn division_stands()
     ensures { FlatDivisionLaws }
-{
-    0
-}
+{}
 
-pub fn sizes_stand() -> u8
+pub fn sizes_stand()
     ensures { SizeLaws }
-{
-    0
-}
+{}
 
-pub fn cells_stand() -> u8
+pub fn cells_stand()
     ensures { CellLaws }
-{
-    0
-}
+{}

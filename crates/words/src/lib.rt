@@ -1,6 +1,7 @@
 // Sentences as words: which slices of numbers are sentences, and a reader of their parts.
 #![tactic(auto)]
 
+pub mod answer;
 pub mod kind;
 pub mod reader;
 pub mod sentence;
