@@ -1,5 +1,5 @@
 -- What words read as, a level at a time, and what is left of it where the parts are only passed over.
-use Rattle.std.proofs.Common.{◌≡◌, ℕ, zero, suc, ◌-◌, Bool, true, ◌⊎◌, List, ◌∷◌, ℤ, is_err, Ok, Err, Result, sym, refl, ap, ◌∙◌, inl, inr, arith}
+use Rattle.std.proofs.Common.{◌≡◌, ℕ, zero, suc, ◌+◌, ◌-◌, Bool, true, ◌⊎◌, List, ◌∷◌, ℤ, is_err, Ok, Err, Result, sym, refl, ap, ◌∙◌, inl, inr, add-one, arith}
 use Rattle.field.specs.Sentence.{Term, Sum, Product, Formula, BelowZero, EqualsZero, And, Or}
 use Rattle.words.specs.declared.kind.Kind.{Kind}
 use Rattle.words.specs.Kind.{kind_of}
@@ -106,18 +106,16 @@ no_formula term go k zs (inr (inl e)) = rw e
 no_formula term go k zs (inr (inr (inl e))) = rw e
 no_formula term go k zs (inr (inr (inr e))) = rw e
 
-pub skipped_no_quantifier : (n : ℕ) (zs : List ℤ) → n ≡ 0 → mapped skipped (quantifiers_at n zs) ≡ Read tt zs
+pub no_quantifier : (n : ℕ) (zs : List ℤ) → n ≡ 0 → mapped skipped (quantifiers_at n zs) ≡ Read tt zs
 unfolding quantifiers_at
-skipped_no_quantifier zero zs e = refl
-skipped_no_quantifier (suc n) zs e = absurd (omega arith)
+no_quantifier zero zs e = refl
+no_quantifier (suc n) zs e = absurd (omega arith)
 
-pub skipped-quantifiers : (n : ℕ) (zs : List ℤ) → (n ≡ 0 → ⊥) →
-    mapped skipped (quantifiers_at n zs) ≡ then (meant quantifier_of zs) (λ _ rest. mapped skipped (quantifiers_at (n - 1) rest))
+pub one_quantifier : (n k : ℕ) (zs : List ℤ) → n ≡ k + 1 →
+    mapped skipped (quantifiers_at n zs) ≡ then (meant quantifier_of zs) (λ _ rest. mapped skipped (quantifiers_at k rest))
 unfolding quantifiers_at
-skipped-quantifiers zero zs h = absurd (h refl)
-skipped-quantifiers (suc n) zs h =
-    let e : suc n - 1 ≡ n = omega arith in first (meant quantifier_of zs) ∙ ap (λ k. then (meant quantifier_of zs) (λ _ rest. mapped skipped (quantifiers_at k rest))) (sym e)
+one_quantifier n k zs e = ap (λ m. mapped skipped (quantifiers_at m zs)) (e ∙ add-one k) ∙ first (meant quantifier_of zs)
   where
-    first : (m : Reading Bool) → mapped skipped (then m (λ q rest. mapped (λ qs. q ∷ qs) (quantifiers_at n rest))) ≡ then m (λ _ rest. mapped skipped (quantifiers_at n rest))
+    first : (m : Reading Bool) → mapped skipped (then m (λ q rest. mapped (λ qs. q ∷ qs) (quantifiers_at k rest))) ≡ then m (λ _ rest. mapped skipped (quantifiers_at k rest))
     first Refused = refl
-    first (Read q rest) = skipped-mapped (λ qs. q ∷ qs) (quantifiers_at n rest)
+    first (Read q rest) = skipped-mapped (λ qs. q ∷ qs) (quantifiers_at k rest)

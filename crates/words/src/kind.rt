@@ -1,6 +1,9 @@
 // What a word says where a formula or a term begins.
 ghost use Rattle.std.specs.Prelude.{◌≡◌};
+ghost use Rattle.std.specs.Result.{result_ok};
 ghost use Rattle.words.specs.Kind.{kind_of};
+
+use crate::reader::NotASentence;
 
 #[derive(Clone, Copy, PartialEq, Eq, Debug)]
 pub enum Kind {
@@ -16,19 +19,23 @@ pub enum Kind {
 }
 
 // The kind that this word stands for, if it stands for one.
-pub fn kind_of(word: i64) -> Option<Kind>
-    ensures { result ≡ kind_of word }
-{
-    match word {
-        1 => Some(Kind::BelowZero),
-        2 => Some(Kind::EqualsZero),
-        3 => Some(Kind::Not),
-        4 => Some(Kind::And),
-        5 => Some(Kind::Or),
-        6 => Some(Kind::Variable),
-        7 => Some(Kind::Number),
-        8 => Some(Kind::Sum),
-        9 => Some(Kind::Product),
-        _ => None,
+impl TryFrom<i64> for Kind {
+    type Error = NotASentence;
+
+    ghost try_from_gives = { λ word outcome. result_ok outcome ≡ kind_of word };
+
+    fn try_from(word: i64) -> Result<Kind, NotASentence> {
+        match word {
+            1 => Ok(Kind::BelowZero),
+            2 => Ok(Kind::EqualsZero),
+            3 => Ok(Kind::Not),
+            4 => Ok(Kind::And),
+            5 => Ok(Kind::Or),
+            6 => Ok(Kind::Variable),
+            7 => Ok(Kind::Number),
+            8 => Ok(Kind::Sum),
+            9 => Ok(Kind::Product),
+            _ => Err(NotASentence),
+        }
     }
 }

@@ -4,7 +4,7 @@ ghost use Rattle.words.specs.Kind.{kind_of};
 ghost use Rattle.words.specs.Reading.{outcome, mapped, skipped, meant, word_at};
 ghost use Rattle.words.specs.Words.{variable_of, number_of, quantifier_of, count_of, term_at, formula_at, quantifiers_at, sentence_at};
 
-use crate::kind::{Kind, kind_of};
+use crate::kind::Kind;
 
 // How deep a sentence's formula may be nested.
 pub const DEEPEST: usize = 1024;
@@ -23,8 +23,7 @@ impl Reader<'_> {
     pub fn word(&mut self) -> Result<i64, NotASentence>
         ensures { outcome result self.new.rest.now ≡ word_at self.old.rest.now }
     {
-        let words = self.rest;
-        let [first, rest @ ..] = words else {
+        let [first, rest @ ..] = self.rest else {
             return Err(NotASentence);
         };
         self.rest = rest;
@@ -36,18 +35,16 @@ impl Reader<'_> {
         ensures { outcome result self.new.rest.now ≡ meant kind_of self.old.rest.now }
     {
         let word = self.word()?;
-        kind_of(word).ok_or(NotASentence)
+        Kind::try_from(word)
     }
 
     // A variable, one of so many.
     pub fn variable(&mut self, variables: u8) -> Result<u8, NotASentence>
         ensures { outcome result self.new.rest.now ≡ meant (variable_of variables) self.old.rest.now }
     {
-        let word = self.word()?;
-        if 0 <= word && word < i64::from(variables) {
-            Ok(word as u8)
-        } else {
-            Err(NotASentence)
+        match u8::try_from(self.word()?) {
+            Ok(index) if index < variables => Ok(index),
+            _ => Err(NotASentence),
         }
     }
 
@@ -55,11 +52,9 @@ impl Reader<'_> {
     pub fn number(&mut self) -> Result<i64, NotASentence>
         ensures { outcome result self.new.rest.now ≡ meant number_of self.old.rest.now }
     {
-        let word = self.word()?;
-        if -65536 < word && word < 65536 {
-            Ok(word)
-        } else {
-            Err(NotASentence)
+        match self.word()? {
+            number @ -65535..=65535 => Ok(number),
+            _ => Err(NotASentence),
         }
     }
 
@@ -78,11 +73,9 @@ impl Reader<'_> {
     pub fn count(&mut self) -> Result<u8, NotASentence>
         ensures { outcome result self.new.rest.now ≡ meant count_of self.old.rest.now }
     {
-        let word = self.word()?;
-        if 0 <= word && word <= 4 {
-            Ok(word as u8)
-        } else {
-            Err(NotASentence)
+        match self.word()? {
+            count @ 0..=4 => Ok(count as u8),
+            _ => Err(NotASentence),
         }
     }
 
@@ -134,11 +127,10 @@ impl Reader<'_> {
     pub fn skip_quantifiers(&mut self, count: u8) -> Result<(), NotASentence>
         ensures { outcome result self.new.rest.now ≡ mapped skipped (quantifiers_at count self.old.rest.now) }
     {
-        if count == 0 {
-            return Ok(());
+        for _ in 0..count {
+            self.is_every()?;
         }
-        self.is_every()?;
-        self.skip_quantifiers(count - 1)
+        Ok(())
     }
 
     // Passes over a sentence: how many quantifiers, these, and a formula about as many variables.

@@ -18,8 +18,5 @@ fn reads_whole(words: &[i64]) -> bool
     ensures { result ≡ is_there (whole (sentence_at words.now)) }
 {
     let mut reader = Reader { rest: words };
-    match reader.skip_sentence() {
-        Ok(()) => reader.rest.is_empty(),
-        Err(_) => false,
-    }
+    reader.skip_sentence().is_ok() && reader.rest.is_empty()
 }
