@@ -12,26 +12,21 @@ returns-in_err-kind t c =
 
 pub returns-in_err-skip_formula-in-And : goal.returns-in_err-skip_formula-in-And
 returns-in_err-skip_formula-in-And t c =
-    let opened = formula_of_kind c.args.depth c.args.variables c.args.self.now.rest.now _ _ c.if-depth-eq0.false c.in_ok-kind.ensures in
-    rw (opened, skipped-formula_pair _ _ _ _ c.in-And.is, ← c.in_err-skip_formula-in-And.ensures)
+    rw (formula_of_kind _ _ _ _ _ c.if-depth-eq0.false c.in_ok-kind.ensures, skipped-formula_pair _ _ _ _ c.in-And.is, ← c.in_err-skip_formula-in-And.ensures)
     (refused_outcome c.from_residual-in_err-skip_formula-in-And.result _ c.from_residual-in_err-skip_formula-in-And.ensures.0)
 
 pub returns-in_ok-skip_formula-in-And : goal.returns-in_ok-skip_formula-in-And
 returns-in_ok-skip_formula-in-And t c =
-    let opened = formula_of_kind c.args.depth c.args.variables c.args.self.now.rest.now _ _ c.if-depth-eq0.false c.in_ok-kind.ensures in
-    rw (opened, skipped-formula_pair _ _ _ _ c.in-And.is, ← c.in_ok-skip_formula-in-And.ensures) c.skip_formula-in-And-2.ensures
+    rw (formula_of_kind _ _ _ _ _ c.if-depth-eq0.false c.in_ok-kind.ensures, skipped-formula_pair _ _ _ _ c.in-And.is, ← c.in_ok-skip_formula-in-And.ensures) c.skip_formula-in-And-2.ensures
 
 pub returns-in-BelowZero : goal.returns-in-BelowZero
 returns-in-BelowZero t c =
-    let opened = formula_of_kind c.args.depth c.args.variables c.args.self.now.rest.now _ _ c.if-depth-eq0.false c.in_ok-kind.ensures in
-    rw (opened, skipped-comparison _ _ _ _ c.in-BelowZero.is) c.skip_term.ensures
+    rw (formula_of_kind _ _ _ _ _ c.if-depth-eq0.false c.in_ok-kind.ensures, skipped-comparison _ _ _ _ c.in-BelowZero.is) c.skip_term.ensures
 
 pub returns-in-Not : goal.returns-in-Not
 returns-in-Not t c =
-    let opened = formula_of_kind c.args.depth c.args.variables c.args.self.now.rest.now _ _ c.if-depth-eq0.false c.in_ok-kind.ensures in
-    rw (opened, c.in-Not.is, skipped-mapped) c.skip_formula.ensures
+    rw (formula_of_kind _ _ _ _ _ c.if-depth-eq0.false c.in_ok-kind.ensures, c.in-Not.is, skipped-mapped) c.skip_formula.ensures
 
 pub returns-in-Variable : goal.returns-in-Variable
 returns-in-Variable t c =
-    let opened = formula_of_kind c.args.depth c.args.variables c.args.self.now.rest.now _ _ c.if-depth-eq0.false c.in_ok-kind.ensures in
-    rw (opened, no_formula _ _ _ _ c.in-Variable.is)
+    rw (formula_of_kind _ _ _ _ _ c.if-depth-eq0.false c.in_ok-kind.ensures, no_formula _ _ _ _ c.in-Variable.is)
