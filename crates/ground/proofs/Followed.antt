@@ -1,15 +1,13 @@
 -- What a formula's outline says is what its tree says.
-use Rattle.std.proofs.Common.{◌≡◌, ℕ, zero, suc, ◌+◌, ◌*◌, Bool, true, false, cond, eqb, leb, List, [], ◌∷◌, length, ℤ, pos, negsuc, Some, None, Option, sym, refl, ap, ◌∙◌, subst, ap₂, arith}
+use Rattle.std.proofs.Common.{◌≡◌, ℕ, zero, suc, ◌+◌, ◌*◌, Bool, true, false, cond, eqb, leb, List, [], ◌∷◌, length, ℤ, pos, negsuc, Some, None, Option, Ok, Err, sym, refl, ap, ◌∙◌, subst, ap₂, arith}
 use Rattle.field.specs.Sentence.{Formula, BelowZero, EqualsZero, Not, And, Or, Sentence}
 use Rattle.words.specs.Reading.{Reading, Refused, Read, mapped, then, meant}
-use Rattle.words.specs.Words.{is_there, whole, count_of, quantifier_of, quantifiers_at, formula_at, sentence_of, is_sentence}
-use Rattle.ground.specs.declared.outline.End.{End}
-use Rattle.ground.specs.declared.outline.End.TheVariants.{ToYes, ToNo, Nowhere}
+use Rattle.words.specs.Words.{is_there, whole, count_of, quantifier_of, quantifiers_at, formula_at, is_sentence}
+use Rattle.words.specs.declared.answer.Answer.{Answer}
 use Rattle.ground.specs.declared.outline.Outline.{Outline}
-use Rattle.ground.specs.declared.verdict.Verdict.{Verdict}
-use Rattle.ground.specs.declared.verdict.Verdict.TheVariants.{GivenUp, NotASentence, NotDecided}
+use Rattle.ground.specs.declared.verdict.Refusal.TheVariants.{NotDecided}
 use Rattle.ground.specs.Ground.{number_of, Tree, Yes, No, asks, tree_of, questions, by_sign, followed, answered, verdict_if, verdict_of}
-use Rattle.ground.specs.Outline.{capped, onward, compared, negated, conjoined, outline_of, ending, concluded, concluded_by}
+use Rattle.ground.specs.Outline.{capped, onward, compared, negated, conjoined, outline_of, concluded, concluded_by}
 use Rattle.ground.proofs.Counts.{capped-join, capped-below}
 
 -- how many questions a tree of this outline has, its two ends having so many
@@ -19,12 +17,12 @@ counted o y n = o.questions + (o.yes * y + o.no * n)
 swapped : (o : Outline) (y n : ℕ) → counted (negated o) y n ≡ counted o n y
 swapped o y n = omega arith
 
-below_counts : (z : Option ℤ) (y n : Tree) → capped (questions (asks z y n n)) ≡ capped (counted (compared z ToYes ToNo ToNo 1 2) (questions y) (questions n))
+below_counts : (z : Option ℤ) (y n : Tree) → capped (questions (asks z y n n)) ≡ capped (counted (compared z Answer.Yes Answer.No Answer.No 1 2) (questions y) (questions n))
 unfolding questions
 below_counts None y n = omega arith
 below_counts (Some z) y n = omega arith
 
-equals_counts : (z : Option ℤ) (y n : Tree) → capped (questions (asks z n y n)) ≡ capped (counted (compared z ToNo ToYes ToNo 1 2) (questions y) (questions n))
+equals_counts : (z : Option ℤ) (y n : Tree) → capped (questions (asks z n y n)) ≡ capped (counted (compared z Answer.No Answer.Yes Answer.No 1 2) (questions y) (questions n))
 unfolding questions
 equals_counts None y n = omega arith
 equals_counts (Some z) y n = omega arith
@@ -47,13 +45,13 @@ outline_counts (Or p q) y n =
     (outline_counts q y n ∙ sym (ap capped (swapped (outline_of q) (questions n) (questions y)))) ∙
     sym (ap capped (swapped (conjoined (negated (outline_of p)) (negated (outline_of q))) (questions y) (questions n)))
 
--- the verdict at the end that is led to
-abbrev at : End → Verdict → Verdict → Verdict
-at ToYes y n = y
-at ToNo y n = n
-at Nowhere y n = GivenUp
+-- the answer of the tree that stands at the end that is led to
+abbrev at : Answer → Answer → Answer → Answer
+at Answer.Yes y n = y
+at Answer.No y n = n
+at Answer.GivenUp y n = Answer.GivenUp
 
-at_sign : (z : ℤ) (a b c : End) (y n : Verdict) → by_sign z (at a y n) (at b y n) (at c y n) ≡ at (by_sign z a b c) y n
+at_sign : (z : ℤ) (a b c : Answer) (y n : Answer) → by_sign z (at a y n) (at b y n) (at c y n) ≡ at (by_sign z a b c) y n
 at_sign (pos k) a b c y n = under (eqb k 0)
   where
     under : (t : Bool) → cond t (at b y n) (at c y n) ≡ at (cond t b c) y n
@@ -61,17 +59,17 @@ at_sign (pos k) a b c y n = under (eqb k 0)
     under false = refl
 at_sign (negsuc k) a b c y n = refl
 
-at_negated : (e : End) (y n : Verdict) → at (onward e ToNo ToYes Nowhere) y n ≡ at e n y
-at_negated ToYes y n = refl
-at_negated ToNo y n = refl
-at_negated Nowhere y n = refl
+at_negated : (e : Answer) (y n : Answer) → at (onward e Answer.No Answer.Yes Answer.GivenUp) y n ≡ at e n y
+at_negated Answer.Yes y n = refl
+at_negated Answer.No y n = refl
+at_negated Answer.GivenUp y n = refl
 
-at_conjoined : (d e : End) (y n : Verdict) → at d (at e y n) n ≡ at (onward d e ToNo Nowhere) y n
-at_conjoined ToYes e y n = refl
-at_conjoined ToNo e y n = refl
-at_conjoined Nowhere e y n = refl
+at_conjoined : (d e : Answer) (y n : Answer) → at d (at e y n) n ≡ at (onward d e Answer.No Answer.GivenUp) y n
+at_conjoined Answer.Yes e y n = refl
+at_conjoined Answer.No e y n = refl
+at_conjoined Answer.GivenUp e y n = refl
 
-compared_leads : (z : Option ℤ) (a b c : Tree) (d e f : End) (k l : ℕ) (y n : Verdict) → followed a ≡ at d y n → followed b ≡ at e y n → followed c ≡ at f y n →
+compared_leads : (z : Option ℤ) (a b c : Tree) (d e f : Answer) (k l : ℕ) (y n : Answer) → followed a ≡ at d y n → followed b ≡ at e y n → followed c ≡ at f y n →
     followed (asks z a b c) ≡ at (compared z d e f k l).end y n
 unfolding followed
 compared_leads None a b c d e f k l y n p q r = refl
@@ -79,8 +77,8 @@ compared_leads (Some z) a b c d e f k l y n p q r = rw (p, q, r) (at_sign z d e 
 
 outline_leads : (p : Formula) (y n : Tree) → followed (tree_of p y n) ≡ at (outline_of p).end (followed y) (followed n)
 unfolding tree_of outline_of
-outline_leads (BelowZero t) y n = compared_leads (number_of t) y n n ToYes ToNo ToNo 1 2 (followed y) (followed n) refl refl refl
-outline_leads (EqualsZero t) y n = compared_leads (number_of t) n y n ToNo ToYes ToNo 1 2 (followed y) (followed n) refl refl refl
+outline_leads (BelowZero t) y n = compared_leads (number_of t) y n n Answer.Yes Answer.No Answer.No 1 2 (followed y) (followed n) refl refl refl
+outline_leads (EqualsZero t) y n = compared_leads (number_of t) n y n Answer.No Answer.Yes Answer.No 1 2 (followed y) (followed n) refl refl refl
 outline_leads (Not p) y n = outline_leads p n y ∙ sym (at_negated (outline_of p).end (followed y) (followed n))
 outline_leads (And p q) y n =
     outline_leads p (tree_of q y n) n ∙
@@ -91,15 +89,15 @@ outline_leads (Or p q) y n =
     let e = (outline_of q).end in
     outline_leads p y (tree_of q y n) ∙
     ap (λ v. at d (followed y) v) (outline_leads q y n ∙ sym (at_negated e (followed n) (followed y))) ∙
-    sym (at_negated d (at (onward e ToNo ToYes Nowhere) (followed n) (followed y)) (followed y)) ∙
-    at_conjoined (onward d ToNo ToYes Nowhere) (onward e ToNo ToYes Nowhere) (followed n) (followed y) ∙
-    sym (at_negated (onward (onward d ToNo ToYes Nowhere) (onward e ToNo ToYes Nowhere) ToNo Nowhere) (followed y) (followed n))
+    sym (at_negated d (at (onward e Answer.No Answer.Yes Answer.GivenUp) (followed n) (followed y)) (followed y)) ∙
+    at_conjoined (onward d Answer.No Answer.Yes Answer.GivenUp) (onward e Answer.No Answer.Yes Answer.GivenUp) (followed n) (followed y) ∙
+    sym (at_negated (onward (onward d Answer.No Answer.Yes Answer.GivenUp) (onward e Answer.No Answer.Yes Answer.GivenUp) Answer.No Answer.GivenUp) (followed y) (followed n))
 
-at_ends : (e : End) → ending e ≡ at e (followed Yes) (followed No)
+at_ends : (e : Answer) → e ≡ at e (followed Yes) (followed No)
 unfolding followed
-at_ends ToYes = refl
-at_ends ToNo = refl
-at_ends Nowhere = refl
+at_ends Answer.Yes = refl
+at_ends Answer.No = refl
+at_ends Answer.GivenUp = refl
 
 no_ends : (o : Outline) → counted o (questions Yes) (questions No) ≡ o.questions
 unfolding questions
@@ -107,7 +105,7 @@ no_ends o = omega arith
 
 pub outline_answers : (p : Formula) → concluded (outline_of p) ≡ answered (tree_of p Yes No)
 outline_answers p =
-    ap₂ (λ t v. cond t v GivenUp)
+    ap₂ (λ t v. cond t v Answer.GivenUp)
     (capped-below (outline_of p).questions (questions (tree_of p Yes No)) (sym (outline_counts p Yes No ∙ ap capped (no_ends (outline_of p)))))
     (at_ends (outline_of p).end ∙ sym (outline_leads p Yes No))
 
@@ -135,29 +133,29 @@ no_body false = refl
 with_no_quantifier : (short : Bool) (m : Reading Formula) → is_there (kept short (mapped (bodied []) m)) ≡ true → concluded_by m ≡ verdict_if (kept short (mapped (bodied []) m))
 with_no_quantifier false m h = let z : ◌≡◌ {A = ℕ} 0 1 = cc in absurd (omega arith)
 with_no_quantifier true Refused h = let z : ◌≡◌ {A = ℕ} 0 1 = cc in absurd (omega arith)
-with_no_quantifier true (Read p []) h = outline_answers p
+with_no_quantifier true (Read p []) h = ap Ok (outline_answers p)
 with_no_quantifier true (Read p (z ∷ zs)) h = let o : ◌≡◌ {A = ℕ} 0 1 = cc in absurd (omega arith)
 
 with_quantifiers : (short : Bool) (q : Bool) (qs : List Bool) (m : Reading Formula) → is_there (kept short (mapped (bodied (q ∷ qs)) m)) ≡ true →
-    NotDecided ≡ verdict_if (kept short (mapped (bodied (q ∷ qs)) m))
+    Err NotDecided ≡ verdict_if (kept short (mapped (bodied (q ∷ qs)) m))
 with_quantifiers false q qs m h = let z : ◌≡◌ {A = ℕ} 0 1 = cc in absurd (omega arith)
 with_quantifiers true q qs Refused h = let z : ◌≡◌ {A = ℕ} 0 1 = cc in absurd (omega arith)
 with_quantifiers true q qs (Read p []) h = refl
 with_quantifiers true q qs (Read p (z ∷ zs)) h = let o : ◌≡◌ {A = ℕ} 0 1 = cc in absurd (omega arith)
 
 some-quantifiers : (short : Bool) (n : ℕ) (rest : List ℤ) → (n ≡ 0 → ⊥) → is_there (kept short (quantified n (quantifiers_at n rest))) ≡ true →
-    NotDecided ≡ verdict_if (kept short (quantified n (quantifiers_at n rest)))
+    Err NotDecided ≡ verdict_if (kept short (quantified n (quantifiers_at n rest)))
 unfolding quantifiers_at
 some-quantifiers short zero rest h s = absurd (h refl)
 some-quantifiers short (suc n) rest h s = first (meant quantifier_of rest) s
   where
     later : (q : Bool) (m : Reading (List Bool)) → is_there (kept short (quantified (suc n) (mapped (λ qs. q ∷ qs) m))) ≡ true →
-        NotDecided ≡ verdict_if (kept short (quantified (suc n) (mapped (λ qs. q ∷ qs) m)))
+        Err NotDecided ≡ verdict_if (kept short (quantified (suc n) (mapped (λ qs. q ∷ qs) m)))
     later q Refused t = absurd (none_there (kept short Refused) t (no_body short))
     later q (Read qs body) t = with_quantifiers short q qs (formula_at 1024 (suc n) body) t
 
     first : (m : Reading Bool) → is_there (kept short (quantified (suc n) (then m (λ q more. mapped (λ qs. q ∷ qs) (quantifiers_at n more))))) ≡ true →
-        NotDecided ≡ verdict_if (kept short (quantified (suc n) (then m (λ q more. mapped (λ qs. q ∷ qs) (quantifiers_at n more)))))
+        Err NotDecided ≡ verdict_if (kept short (quantified (suc n) (then m (λ q more. mapped (λ qs. q ∷ qs) (quantifiers_at n more)))))
     first Refused t = absurd (none_there (kept short Refused) t (no_body short))
     first (Read q more) t = later q (quantifiers_at n more) t
 
@@ -170,19 +168,7 @@ module _ (zs rest : List ℤ) (sentence : is_sentence zs ≡ true) where
       subst (λ m. is_there (kept short (sentence_from m)) ≡ true → concluded_by (formula_at 1024 0 rest) ≡ verdict_if (kept short (sentence_from m))) e
       (with_no_quantifier short (formula_at 1024 0 rest)) sentence
 
-  pub quantified_verdict : (n : ℕ) → (n ≡ 0 → ⊥) → Read n rest ≡ meant count_of zs → NotDecided ≡ verdict_of zs
+  pub quantified_verdict : (n : ℕ) → (n ≡ 0 → ⊥) → Read n rest ≡ meant count_of zs → Err NotDecided ≡ verdict_of zs
   quantified_verdict n h e =
       let short = leb (length zs) 1024 in
-      subst (λ m. is_there (kept short (sentence_from m)) ≡ true → NotDecided ≡ verdict_if (kept short (sentence_from m))) e (some-quantifiers short n rest h) sentence
-
-pub no_count-verdict : (zs : List ℤ) → Refused ≡ meant count_of zs → NotASentence ≡ verdict_of zs
-no_count-verdict zs e =
-    let short = leb (length zs) 1024 in
-    subst (λ m. NotASentence ≡ verdict_if (kept short (sentence_from m))) e (sym (ap verdict_if (no_body short)))
-
-pub no_sentence-verdict : (zs : List ℤ) → is_sentence zs ≡ false → NotASentence ≡ verdict_of zs
-no_sentence-verdict zs = among (sentence_of zs)
-  where
-    among : (o : Option Sentence) → is_there o ≡ false → NotASentence ≡ verdict_if o
-    among None h = refl
-    among (Some s) h = let z : ◌≡◌ {A = ℕ} 0 1 = cc in absurd (omega arith)
+      subst (λ m. is_there (kept short (sentence_from m)) ≡ true → Err NotDecided ≡ verdict_if (kept short (sentence_from m))) e (some-quantifiers short n rest h) sentence

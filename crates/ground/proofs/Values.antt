@@ -7,7 +7,7 @@ use Rattle.words.specs.Reading.{Reading, Refused, Read, mapped, two, meant, if_s
 use Rattle.words.specs.Words.{term_by, formula_by, variable_of}
 use Rattle.words.specs.Words as words
 use Rattle.words.proofs.Words.{mapped-two}
-use Rattle.ground.specs.declared.outline.End.TheVariants.{ToYes, ToNo}
+use Rattle.words.specs.declared.answer.Answer.TheVariants.{Yes, No}
 use Rattle.ground.specs.Ground.{modest, on_both, number_of}
 use Rattle.ground.specs.Outline.{outline_of, compared, negated, conjoined}
 
@@ -44,19 +44,19 @@ no_ground_term go k zs (inr (inr (inr (inr (inl e))))) = rw e
 no_ground_term go k zs (inr (inr (inr (inr (inr e))))) = rw e
 
 module _ (term : List ℤ → Reading Term) (go : List ℤ → Reading Formula) (zs : List ℤ) where
-  pub below_outline : mapped outline_of (formula_by term go Kind.BelowZero zs) ≡ mapped (λ v. compared v ToYes ToNo ToNo 1 2) (mapped number_of (term zs))
+  pub below_outline : mapped outline_of (formula_by term go Kind.BelowZero zs) ≡ mapped (λ v. compared v Yes No No 1 2) (mapped number_of (term zs))
   unfolding outline_of
   below_outline = twice (term zs)
     where
-      twice : (m : Reading Term) → mapped outline_of (mapped BelowZero m) ≡ mapped (λ v. compared v ToYes ToNo ToNo 1 2) (mapped number_of m)
+      twice : (m : Reading Term) → mapped outline_of (mapped BelowZero m) ≡ mapped (λ v. compared v Yes No No 1 2) (mapped number_of m)
       twice Refused = refl
       twice (Read t more) = refl
 
-  pub equals_outline : mapped outline_of (formula_by term go Kind.EqualsZero zs) ≡ mapped (λ v. compared v ToNo ToYes ToNo 1 2) (mapped number_of (term zs))
+  pub equals_outline : mapped outline_of (formula_by term go Kind.EqualsZero zs) ≡ mapped (λ v. compared v No Yes No 1 2) (mapped number_of (term zs))
   unfolding outline_of
   equals_outline = twice (term zs)
     where
-      twice : (m : Reading Term) → mapped outline_of (mapped EqualsZero m) ≡ mapped (λ v. compared v ToNo ToYes ToNo 1 2) (mapped number_of m)
+      twice : (m : Reading Term) → mapped outline_of (mapped EqualsZero m) ≡ mapped (λ v. compared v No Yes No 1 2) (mapped number_of m)
       twice Refused = refl
       twice (Read t more) = refl
 

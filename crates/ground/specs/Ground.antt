@@ -1,9 +1,9 @@
 -- How a sentence without quantifiers is answered: its formula becomes a tree of questions about numbers, and the tree is followed. Assumes nothing.
-use Rattle.std.specs.Prelude.{ℕ, ◌+◌, ◌^◌, Bool, cond, List, [], ◌∷◌, ℤ, pos, negsuc, ◌+ℤ◌, ◌*ℤ◌, Some, None, Option, ◌==◌, nat_lt, unsigned_abs}
+use Rattle.std.specs.Prelude.{ℕ, ◌+◌, ◌^◌, Bool, cond, List, [], ◌∷◌, ℤ, pos, negsuc, ◌+ℤ◌, ◌*ℤ◌, Some, None, Option, Ok, Err, Result, ◌==◌, nat_lt, unsigned_abs}
 use Rattle.field.specs.Sentence.{Term, Var, Num, Sum, Product, Formula, BelowZero, EqualsZero, Not, And, Or, Sentence}
 use Rattle.words.specs.Words.{sentence_of}
-use Rattle.ground.specs.declared.verdict.Verdict.{Verdict}
-use Rattle.ground.specs.declared.verdict.Verdict.TheVariants.{Holds, Fails, GivenUp, NotASentence, NotDecided}
+use Rattle.words.specs.declared.answer.Answer.{Answer}
+use Rattle.ground.specs.declared.verdict.Refusal.{Refusal}
 
 -- a number that is not too large to go on with: below 2^27 without its sign
 abbrev pub modest : ℤ → Option ℤ
@@ -50,24 +50,24 @@ abbrev pub by_sign : {A : Type 0} → ℤ → A → A → A → A
 by_sign (pos n) a b c = cond (n == 0) b c
 by_sign (negsuc n) a b c = a
 
-unfoldable pub followed : Tree → Verdict
-followed Yes = Holds
-followed No = Fails
-followed Lost = GivenUp
+unfoldable pub followed : Tree → Answer
+followed Yes = Answer.Yes
+followed No = Answer.No
+followed Lost = Answer.GivenUp
 followed (Ask z a b c) = by_sign z (followed a) (followed b) (followed c)
 
 -- with 3,500 questions or more it is given up
-abbrev pub answered : Tree → Verdict
-answered t = cond (nat_lt (questions t) 3500) (followed t) GivenUp
+abbrev pub answered : Tree → Answer
+answered t = cond (nat_lt (questions t) 3500) (followed t) Answer.GivenUp
 
-abbrev pub verdict_by : List Bool → Formula → Verdict
-verdict_by [] p = answered (tree_of p Yes No)
-verdict_by (q ∷ qs) p = NotDecided
+abbrev pub verdict_by : List Bool → Formula → Result Answer Refusal
+verdict_by [] p = Ok (answered (tree_of p Yes No))
+verdict_by (q ∷ qs) p = Err Refusal.NotDecided
 
-abbrev pub verdict_if : Option Sentence → Verdict
-verdict_if None = NotASentence
+abbrev pub verdict_if : Option Sentence → Result Answer Refusal
+verdict_if None = Err Refusal.NotASentence
 verdict_if (Some s) = verdict_by s.quantifiers s.body
 
 -- what is said of a slice of words
-abbrev pub verdict_of : List ℤ → Verdict
+abbrev pub verdict_of : List ℤ → Result Answer Refusal
 verdict_of zs = verdict_if (sentence_of zs)

@@ -7,7 +7,7 @@ ghost use Rattle.ground.specs.Outline.{outline_of, concluded_by};
 
 use crate::number::{modest_number, product, sum};
 use crate::outline::{Outline, below_zero, equals_zero};
-use crate::verdict::Verdict;
+use crate::verdict::{Refusal, Verdict};
 use words::kind::Kind;
 use words::reader::{DEEPEST, NotASentence, Reader};
 use words::sentence::is_sentence;
@@ -17,14 +17,11 @@ pub fn verdict(words: &[i64]) -> Verdict
     ensures { result ≡ verdict_of words.now }
 {
     if !is_sentence(words) {
-        return Verdict::NotASentence;
+        return Err(Refusal::NotASentence);
     }
     let mut reader = Reader { rest: words };
-    let Ok(count) = reader.count() else {
-        return Verdict::NotASentence;
-    };
-    if count != 0 {
-        return Verdict::NotDecided;
+    if reader.count()? != 0 {
+        return Err(Refusal::NotDecided);
     }
     verdict_of_body(reader.rest)
 }
@@ -32,11 +29,8 @@ pub fn verdict(words: &[i64]) -> Verdict
 fn verdict_of_body(body: &[i64]) -> Verdict
     ensures { result ≡ concluded_by (formula_at 1024 0 body.now) }
 {
-    let mut reader = Reader { rest: body };
-    match formula(&mut reader, DEEPEST) {
-        Ok(outline) => outline.verdict(),
-        Err(_) => Verdict::NotASentence,
-    }
+    let outline = formula(&mut Reader { rest: body }, DEEPEST)?;
+    Ok(outline.answer())
 }
 
 // A term's number, if it is modest.
@@ -48,16 +42,8 @@ fn term(reader: &mut Reader, depth: usize) -> Result<Option<i64>, NotASentence>
     }
     match reader.kind()? {
         Kind::Number => Ok(modest_number(reader.number()?)),
-        Kind::Sum => {
-            let first = term(reader, depth - 1)?;
-            let second = term(reader, depth - 1)?;
-            Ok(sum(first, second))
-        }
-        Kind::Product => {
-            let first = term(reader, depth - 1)?;
-            let second = term(reader, depth - 1)?;
-            Ok(product(first, second))
-        }
+        Kind::Sum => Ok(sum(term(reader, depth - 1)?, term(reader, depth - 1)?)),
+        Kind::Product => Ok(product(term(reader, depth - 1)?, term(reader, depth - 1)?)),
         Kind::Variable | Kind::BelowZero | Kind::EqualsZero | Kind::Not | Kind::And | Kind::Or =>
             Err(NotASentence),
     }
@@ -73,16 +59,8 @@ fn formula(reader: &mut Reader, depth: usize) -> Result<Outline, NotASentence>
         Kind::BelowZero => Ok(below_zero(term(reader, depth - 1)?)),
         Kind::EqualsZero => Ok(equals_zero(term(reader, depth - 1)?)),
         Kind::Not => Ok(formula(reader, depth - 1)?.negation()),
-        Kind::And => {
-            let first = formula(reader, depth - 1)?;
-            let second = formula(reader, depth - 1)?;
-            Ok(first.conjunction(second))
-        }
-        Kind::Or => {
-            let first = formula(reader, depth - 1)?;
-            let second = formula(reader, depth - 1)?;
-            Ok(first.disjunction(second))
-        }
+        Kind::And => Ok(formula(reader, depth - 1)?.conjunction(formula(reader, depth - 1)?)),
+        Kind::Or => Ok(formula(reader, depth - 1)?.disjunction(formula(reader, depth - 1)?)),
         Kind::Variable | Kind::Number | Kind::Sum | Kind::Product => Err(NotASentence),
     }
 }

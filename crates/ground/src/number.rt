@@ -6,33 +6,22 @@ ghost use Rattle.ground.specs.Ground.{modest, on_both};
 pub fn modest_number(z: i64) -> Option<i64>
     ensures { result ≡ modest z }
 {
-    if -134217728 < z && z < 134217728 {
-        Some(z)
-    } else {
-        None
+    match z {
+        -134217727..=134217727 => Some(z),
+        _ => None,
     }
 }
 
 pub fn sum(a: Option<i64>, b: Option<i64>) -> Option<i64>
     ensures { result ≡ on_both (λ x y. modest (x +ℤ y)) a b }
 {
-    let (Some(x), Some(y)) = (a, b) else {
-        return None;
-    };
-    match x.checked_add(y) {
-        Some(z) => modest_number(z),
-        None => None,
-    }
+    let (x, y) = a.zip(b)?;
+    modest_number(x.checked_add(y)?)
 }
 
 pub fn product(a: Option<i64>, b: Option<i64>) -> Option<i64>
     ensures { result ≡ on_both (λ x y. modest (x *ℤ y)) a b }
 {
-    let (Some(x), Some(y)) = (a, b) else {
-        return None;
-    };
-    match x.checked_mul(y) {
-        Some(z) => modest_number(z),
-        None => None,
-    }
+    let (x, y) = a.zip(b)?;
+    modest_number(x.checked_mul(y)?)
 }

@@ -1,27 +1,21 @@
 // A formula's tree in outline: enough to count its questions and to know where it leads, with no tree made.
 ghost use Rattle.std.specs.Prelude.{◌≡◌, ◌+◌, ◌*◌};
 ghost use Rattle.ground.specs.Outline.{capped, negated, conjoined, compared, concluded};
-ghost use Rattle.ground.specs.declared.outline.End.TheVariants.{ToYes, ToNo};
+ghost use Rattle.words.specs.declared.answer.Answer.TheVariants.{Yes, No};
 
-use crate::verdict::Verdict;
+use field::sign::Sign;
+use words::answer::Answer;
 
 // With so many questions a tree is given up, so no count goes beyond.
 pub const MOST: u32 = 3500;
-
-// Where a tree leads: to its end for yes, to the one for no, or to neither since a number was too large.
-#[derive(Clone, Copy)]
-pub enum End {
-    ToYes,
-    ToNo,
-    Nowhere,
-}
 
 #[derive(Clone, Copy)]
 pub struct Outline {
     pub questions: u32,
     pub yes: u32,
     pub no: u32,
-    pub end: End,
+    // the answer that the tree leads to, given up where a number is too large
+    pub end: Answer,
 }
 
 // base + times * count, up to the most that is counted.
@@ -32,23 +26,21 @@ fn weighed(base: u32, times: u32, count: u32) -> u32
 }
 
 // A comparison whose three ends, for below, at and above zero, are these; one of them is yes.
-fn comparison(number: Option<i64>, below: End, at: End, above: End) -> Outline
+fn comparison(number: Option<i64>, below: Answer, at: Answer, above: Answer) -> Outline
     ensures { result ≡ compared number below at above 1 2 }
 {
-    let Some(z) = number else {
+    let Some(number) = number else {
         return Outline {
             questions: 0,
             yes: 0,
             no: 0,
-            end: End::Nowhere,
+            end: Answer::GivenUp,
         };
     };
-    let end = if z < 0 {
-        below
-    } else if z == 0 {
-        at
-    } else {
-        above
+    let end = match Sign::of(number) {
+        Sign::Neg => below,
+        Sign::Zero => at,
+        Sign::Pos => above,
     };
     Outline {
         questions: 1,
@@ -59,15 +51,15 @@ fn comparison(number: Option<i64>, below: End, at: End, above: End) -> Outline
 }
 
 pub fn below_zero(number: Option<i64>) -> Outline
-    ensures { result ≡ compared number ToYes ToNo ToNo 1 2 }
+    ensures { result ≡ compared number Yes No No 1 2 }
 {
-    comparison(number, End::ToYes, End::ToNo, End::ToNo)
+    comparison(number, Answer::Yes, Answer::No, Answer::No)
 }
 
 pub fn equals_zero(number: Option<i64>) -> Outline
-    ensures { result ≡ compared number ToNo ToYes ToNo 1 2 }
+    ensures { result ≡ compared number No Yes No 1 2 }
 {
-    comparison(number, End::ToNo, End::ToYes, End::ToNo)
+    comparison(number, Answer::No, Answer::Yes, Answer::No)
 }
 
 impl Outline {
@@ -75,9 +67,9 @@ impl Outline {
         ensures { result ≡ negated self }
     {
         let end = match self.end {
-            End::ToYes => End::ToNo,
-            End::ToNo => End::ToYes,
-            End::Nowhere => End::Nowhere,
+            Answer::Yes => Answer::No,
+            Answer::No => Answer::Yes,
+            Answer::GivenUp => Answer::GivenUp,
         };
         Outline {
             questions: self.questions,
@@ -95,9 +87,9 @@ impl Outline {
         let yes = weighed(0, self.yes, other.yes);
         let no = weighed(self.no, self.yes, other.no);
         let end = match self.end {
-            End::ToYes => other.end,
-            End::ToNo => End::ToNo,
-            End::Nowhere => End::Nowhere,
+            Answer::Yes => other.end,
+            Answer::No => Answer::No,
+            Answer::GivenUp => Answer::GivenUp,
         };
         Outline {
             questions,
@@ -113,17 +105,14 @@ impl Outline {
         self.negation().conjunction(other.negation()).negation()
     }
 
-    // What the whole formula's outline says of the sentence.
-    pub fn verdict(self) -> Verdict
+    // The answer of a whole formula with this outline.
+    pub fn answer(self) -> Answer
         ensures { result ≡ concluded self }
     {
         if self.questions >= MOST {
-            return Verdict::GivenUp;
-        }
-        match self.end {
-            End::ToYes => Verdict::Holds,
-            End::ToNo => Verdict::Fails,
-            End::Nowhere => Verdict::GivenUp,
+            Answer::GivenUp
+        } else {
+            self.end
         }
     }
 }

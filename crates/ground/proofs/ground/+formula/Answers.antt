@@ -15,65 +15,52 @@ returns-in_err-kind t c =
 
 pub returns-in_err-term-in-BelowZero : goal.returns-in_err-term-in-BelowZero
 returns-in_err-term-in-BelowZero t c =
-    let opened = formula_of_kind c.args.depth 0 c.args.reader.now.rest.now _ _ c.if-depth-eq0.false c.in_ok-kind.ensures in
-    rw (opened, c.in-BelowZero.is, below_outline, ← c.in_err-term-in-BelowZero.ensures) (refused_outcome c.from_residual-in_err-term-in-BelowZero.result _ c.from_residual-in_err-term-in-BelowZero.ensures.0)
+    rw (formula_of_kind _ _ _ _ _ c.if-depth-eq0.false c.in_ok-kind.ensures, c.in-BelowZero.is, below_outline, ← c.in_err-term-in-BelowZero.ensures) (refused_outcome c.from_residual-in_err-term-in-BelowZero.result _ c.from_residual-in_err-term-in-BelowZero.ensures.0)
 
 pub returns-in_ok-term-in-BelowZero : goal.returns-in_ok-term-in-BelowZero
 returns-in_ok-term-in-BelowZero t c =
-    let opened = formula_of_kind c.args.depth 0 c.args.reader.now.rest.now _ _ c.if-depth-eq0.false c.in_ok-kind.ensures in
-    rw (opened, c.in-BelowZero.is, below_outline, ← c.in_ok-term-in-BelowZero.ensures) (ap (λ v. Read v c.term.new.reader.rest.now) c.below_zero.ensures)
+    rw (formula_of_kind _ _ _ _ _ c.if-depth-eq0.false c.in_ok-kind.ensures, c.in-BelowZero.is, below_outline, ← c.in_ok-term-in-BelowZero.ensures) (ap (λ v. Read v c.term.new.reader.rest.now) c.below_zero.ensures)
 
 pub returns-in_err-term-in-EqualsZero : goal.returns-in_err-term-in-EqualsZero
 returns-in_err-term-in-EqualsZero t c =
-    let opened = formula_of_kind c.args.depth 0 c.args.reader.now.rest.now _ _ c.if-depth-eq0.false c.in_ok-kind.ensures in
-    rw (opened, c.in-EqualsZero.is, equals_outline, ← c.in_err-term-in-EqualsZero.ensures) (refused_outcome c.from_residual-in_err-term-in-EqualsZero.result _ c.from_residual-in_err-term-in-EqualsZero.ensures.0)
+    rw (formula_of_kind _ _ _ _ _ c.if-depth-eq0.false c.in_ok-kind.ensures, c.in-EqualsZero.is, equals_outline, ← c.in_err-term-in-EqualsZero.ensures) (refused_outcome c.from_residual-in_err-term-in-EqualsZero.result _ c.from_residual-in_err-term-in-EqualsZero.ensures.0)
 
 pub returns-in_ok-term-in-EqualsZero : goal.returns-in_ok-term-in-EqualsZero
 returns-in_ok-term-in-EqualsZero t c =
-    let opened = formula_of_kind c.args.depth 0 c.args.reader.now.rest.now _ _ c.if-depth-eq0.false c.in_ok-kind.ensures in
-    rw (opened, c.in-EqualsZero.is, equals_outline, ← c.in_ok-term-in-EqualsZero.ensures) (ap (λ v. Read v c.term-in-EqualsZero.new.reader.rest.now) c.equals_zero.ensures)
+    rw (formula_of_kind _ _ _ _ _ c.if-depth-eq0.false c.in_ok-kind.ensures, c.in-EqualsZero.is, equals_outline, ← c.in_ok-term-in-EqualsZero.ensures) (ap (λ v. Read v c.term-in-EqualsZero.new.reader.rest.now) c.equals_zero.ensures)
 
 pub returns-in_err-formula-in-Not : goal.returns-in_err-formula-in-Not
 returns-in_err-formula-in-Not t c =
-    let opened = formula_of_kind c.args.depth 0 c.args.reader.now.rest.now _ _ c.if-depth-eq0.false c.in_ok-kind.ensures in
-    rw (opened, c.in-Not.is, not_outline, ← c.in_err-formula-in-Not.ensures) (refused_outcome c.from_residual-in_err-formula-in-Not.result _ c.from_residual-in_err-formula-in-Not.ensures.0)
+    rw (formula_of_kind _ _ _ _ _ c.if-depth-eq0.false c.in_ok-kind.ensures, c.in-Not.is, not_outline, ← c.in_err-formula-in-Not.ensures) (refused_outcome c.from_residual-in_err-formula-in-Not.result _ c.from_residual-in_err-formula-in-Not.ensures.0)
 
 pub returns-in_ok-formula-in-Not : goal.returns-in_ok-formula-in-Not
 returns-in_ok-formula-in-Not t c =
-    let opened = formula_of_kind c.args.depth 0 c.args.reader.now.rest.now _ _ c.if-depth-eq0.false c.in_ok-kind.ensures in
-    rw (opened, c.in-Not.is, not_outline, ← c.in_ok-formula-in-Not.ensures) (ap (λ v. Read v c.formula.new.reader.rest.now) c.negation.ensures)
+    rw (formula_of_kind _ _ _ _ _ c.if-depth-eq0.false c.in_ok-kind.ensures, c.in-Not.is, not_outline, ← c.in_ok-formula-in-Not.ensures) (ap (λ v. Read v c.formula.new.reader.rest.now) c.negation.ensures)
 
-pub returns-in_err-first-in-And : goal.returns-in_err-first-in-And
-returns-in_err-first-in-And t c =
-    let opened = formula_of_kind c.args.depth 0 c.args.reader.now.rest.now _ _ c.if-depth-eq0.false c.in_ok-kind.ensures in
-    rw (opened, c.in-And.is, and_outline, ← c.in_err-first-in-And.ensures) (refused_outcome c.from_residual-in_err-first-in-And.result _ c.from_residual-in_err-first-in-And.ensures.0)
+pub returns-in_err-formula-in-And : goal.returns-in_err-formula-in-And
+returns-in_err-formula-in-And t c =
+    rw (formula_of_kind _ _ _ _ _ c.if-depth-eq0.false c.in_ok-kind.ensures, c.in-And.is, and_outline, ← c.in_err-formula-in-And.ensures) (refused_outcome c.from_residual-in_err-formula-in-And.result _ c.from_residual-in_err-formula-in-And.ensures.0)
 
-pub returns-in_err-second-in-And : goal.returns-in_err-second-in-And
-returns-in_err-second-in-And t c =
-    let opened = formula_of_kind c.args.depth 0 c.args.reader.now.rest.now _ _ c.if-depth-eq0.false c.in_ok-kind.ensures in
-    rw (opened, c.in-And.is, and_outline, ← c.in_ok-first-in-And.ensures, ← c.in_err-second-in-And.ensures) (refused_outcome c.from_residual-in_err-second-in-And.result _ c.from_residual-in_err-second-in-And.ensures.0)
+pub returns-in_err-formula-in-And-2 : goal.returns-in_err-formula-in-And-2
+returns-in_err-formula-in-And-2 t c =
+    rw (formula_of_kind _ _ _ _ _ c.if-depth-eq0.false c.in_ok-kind.ensures, c.in-And.is, and_outline, ← c.in_ok-formula-in-And.ensures, ← c.in_err-formula-in-And-2.ensures) (refused_outcome c.from_residual-in_err-formula-in-And-2.result _ c.from_residual-in_err-formula-in-And-2.ensures.0)
 
-pub returns-in_ok-second-in-And : goal.returns-in_ok-second-in-And
-returns-in_ok-second-in-And t c =
-    let opened = formula_of_kind c.args.depth 0 c.args.reader.now.rest.now _ _ c.if-depth-eq0.false c.in_ok-kind.ensures in
-    rw (opened, c.in-And.is, and_outline, ← c.in_ok-first-in-And.ensures, ← c.in_ok-second-in-And.ensures) (ap (λ v. Read v c.formula-in-And-2.new.reader.rest.now) c.conjunction.ensures)
+pub returns-in_ok-formula-in-And-2 : goal.returns-in_ok-formula-in-And-2
+returns-in_ok-formula-in-And-2 t c =
+    rw (formula_of_kind _ _ _ _ _ c.if-depth-eq0.false c.in_ok-kind.ensures, c.in-And.is, and_outline, ← c.in_ok-formula-in-And.ensures, ← c.in_ok-formula-in-And-2.ensures) (ap (λ v. Read v c.formula-in-And-2.new.reader.rest.now) c.conjunction.ensures)
 
-pub returns-in_err-first-in-Or : goal.returns-in_err-first-in-Or
-returns-in_err-first-in-Or t c =
-    let opened = formula_of_kind c.args.depth 0 c.args.reader.now.rest.now _ _ c.if-depth-eq0.false c.in_ok-kind.ensures in
-    rw (opened, c.in-Or.is, or_outline, ← c.in_err-first-in-Or.ensures) (refused_outcome c.from_residual-in_err-first-in-Or.result _ c.from_residual-in_err-first-in-Or.ensures.0)
+pub returns-in_err-formula-in-Or : goal.returns-in_err-formula-in-Or
+returns-in_err-formula-in-Or t c =
+    rw (formula_of_kind _ _ _ _ _ c.if-depth-eq0.false c.in_ok-kind.ensures, c.in-Or.is, or_outline, ← c.in_err-formula-in-Or.ensures) (refused_outcome c.from_residual-in_err-formula-in-Or.result _ c.from_residual-in_err-formula-in-Or.ensures.0)
 
-pub returns-in_err-second-in-Or : goal.returns-in_err-second-in-Or
-returns-in_err-second-in-Or t c =
-    let opened = formula_of_kind c.args.depth 0 c.args.reader.now.rest.now _ _ c.if-depth-eq0.false c.in_ok-kind.ensures in
-    rw (opened, c.in-Or.is, or_outline, ← c.in_ok-first-in-Or.ensures, ← c.in_err-second-in-Or.ensures) (refused_outcome c.from_residual-in_err-second-in-Or.result _ c.from_residual-in_err-second-in-Or.ensures.0)
+pub returns-in_err-formula-in-Or-2 : goal.returns-in_err-formula-in-Or-2
+returns-in_err-formula-in-Or-2 t c =
+    rw (formula_of_kind _ _ _ _ _ c.if-depth-eq0.false c.in_ok-kind.ensures, c.in-Or.is, or_outline, ← c.in_ok-formula-in-Or.ensures, ← c.in_err-formula-in-Or-2.ensures) (refused_outcome c.from_residual-in_err-formula-in-Or-2.result _ c.from_residual-in_err-formula-in-Or-2.ensures.0)
 
-pub returns-in_ok-second-in-Or : goal.returns-in_ok-second-in-Or
-returns-in_ok-second-in-Or t c =
-    let opened = formula_of_kind c.args.depth 0 c.args.reader.now.rest.now _ _ c.if-depth-eq0.false c.in_ok-kind.ensures in
-    rw (opened, c.in-Or.is, or_outline, ← c.in_ok-first-in-Or.ensures, ← c.in_ok-second-in-Or.ensures) (ap (λ v. Read v c.formula-in-Or-2.new.reader.rest.now) c.disjunction.ensures)
+pub returns-in_ok-formula-in-Or-2 : goal.returns-in_ok-formula-in-Or-2
+returns-in_ok-formula-in-Or-2 t c =
+    rw (formula_of_kind _ _ _ _ _ c.if-depth-eq0.false c.in_ok-kind.ensures, c.in-Or.is, or_outline, ← c.in_ok-formula-in-Or.ensures, ← c.in_ok-formula-in-Or-2.ensures) (ap (λ v. Read v c.formula-in-Or-2.new.reader.rest.now) c.disjunction.ensures)
 
 pub returns-in-Variable : goal.returns-in-Variable
 returns-in-Variable t c =
-    let opened = formula_of_kind c.args.depth 0 c.args.reader.now.rest.now _ _ c.if-depth-eq0.false c.in_ok-kind.ensures in
-    rw (opened, no_formula _ _ _ _ c.in-Variable.is)
+    rw (formula_of_kind _ _ _ _ _ c.if-depth-eq0.false c.in_ok-kind.ensures, no_formula _ _ _ _ c.in-Variable.is)

@@ -17,47 +17,38 @@ returns-in_err-kind t c =
 
 pub returns-in_err-number-in-Number : goal.returns-in_err-number-in-Number
 returns-in_err-number-in-Number t c =
-    let opened = term_of_kind c.args.depth 0 c.args.reader.now.rest.now _ _ c.if-depth-eq0.false c.in_ok-kind.ensures in
-    rw (opened, c.in-Number.is, number-number, ← c.in_err-number-in-Number.ensures) (refused_outcome c.from_residual-in_err-number-in-Number.result _ c.from_residual-in_err-number-in-Number.ensures.0)
+    rw (term_of_kind _ _ _ _ _ c.if-depth-eq0.false c.in_ok-kind.ensures, c.in-Number.is, number-number, ← c.in_err-number-in-Number.ensures) (refused_outcome c.from_residual-in_err-number-in-Number.result _ c.from_residual-in_err-number-in-Number.ensures.0)
 
 pub returns-in_ok-number-in-Number : goal.returns-in_ok-number-in-Number
 returns-in_ok-number-in-Number t c =
-    let opened = term_of_kind c.args.depth 0 c.args.reader.now.rest.now _ _ c.if-depth-eq0.false c.in_ok-kind.ensures in
-    rw (opened, c.in-Number.is, number-number, ← c.in_ok-number-in-Number.ensures)
+    rw (term_of_kind _ _ _ _ _ c.if-depth-eq0.false c.in_ok-kind.ensures, c.in-Number.is, number-number, ← c.in_ok-number-in-Number.ensures)
     (let f : SFits w64 c.in_ok-number-in-Number.field-0 = search rules in
     ap (λ v. Read v c.number.new.self.rest.now) (c.modest_number.ensures ∙ ap modest (to_z-of_z w64 c.in_ok-number-in-Number.field-0 f)))
 
-pub returns-in_err-first-in-Sum : goal.returns-in_err-first-in-Sum
-returns-in_err-first-in-Sum t c =
-    let opened = term_of_kind c.args.depth 0 c.args.reader.now.rest.now _ _ c.if-depth-eq0.false c.in_ok-kind.ensures in
-    rw (opened, c.in-Sum.is, sum_number, ← c.in_err-first-in-Sum.ensures) (refused_outcome c.from_residual-in_err-first-in-Sum.result _ c.from_residual-in_err-first-in-Sum.ensures.0)
+pub returns-in_err-term-in-Sum : goal.returns-in_err-term-in-Sum
+returns-in_err-term-in-Sum t c =
+    rw (term_of_kind _ _ _ _ _ c.if-depth-eq0.false c.in_ok-kind.ensures, c.in-Sum.is, sum_number, ← c.in_err-term-in-Sum.ensures) (refused_outcome c.from_residual-in_err-term-in-Sum.result _ c.from_residual-in_err-term-in-Sum.ensures.0)
 
-pub returns-in_err-second-in-Sum : goal.returns-in_err-second-in-Sum
-returns-in_err-second-in-Sum t c =
-    let opened = term_of_kind c.args.depth 0 c.args.reader.now.rest.now _ _ c.if-depth-eq0.false c.in_ok-kind.ensures in
-    rw (opened, c.in-Sum.is, sum_number, ← c.in_ok-first-in-Sum.ensures, ← c.in_err-second-in-Sum.ensures) (refused_outcome c.from_residual-in_err-second-in-Sum.result _ c.from_residual-in_err-second-in-Sum.ensures.0)
+pub returns-in_err-term-in-Sum-2 : goal.returns-in_err-term-in-Sum-2
+returns-in_err-term-in-Sum-2 t c =
+    rw (term_of_kind _ _ _ _ _ c.if-depth-eq0.false c.in_ok-kind.ensures, c.in-Sum.is, sum_number, ← c.in_ok-term-in-Sum.ensures, ← c.in_err-term-in-Sum-2.ensures) (refused_outcome c.from_residual-in_err-term-in-Sum-2.result _ c.from_residual-in_err-term-in-Sum-2.ensures.0)
 
-pub returns-in_ok-second-in-Sum : goal.returns-in_ok-second-in-Sum
-returns-in_ok-second-in-Sum t c =
-    let opened = term_of_kind c.args.depth 0 c.args.reader.now.rest.now _ _ c.if-depth-eq0.false c.in_ok-kind.ensures in
-    rw (opened, c.in-Sum.is, sum_number, ← c.in_ok-first-in-Sum.ensures, ← c.in_ok-second-in-Sum.ensures) (ap (λ v. Read v c.term-in-Sum.new.reader.rest.now) c.sum.ensures)
+pub returns-in_ok-term-in-Sum-2 : goal.returns-in_ok-term-in-Sum-2
+returns-in_ok-term-in-Sum-2 t c =
+    rw (term_of_kind _ _ _ _ _ c.if-depth-eq0.false c.in_ok-kind.ensures, c.in-Sum.is, sum_number, ← c.in_ok-term-in-Sum.ensures, ← c.in_ok-term-in-Sum-2.ensures) (ap (λ v. Read v c.term-in-Sum.new.reader.rest.now) c.sum.ensures)
 
-pub returns-in_err-first-in-Product : goal.returns-in_err-first-in-Product
-returns-in_err-first-in-Product t c =
-    let opened = term_of_kind c.args.depth 0 c.args.reader.now.rest.now _ _ c.if-depth-eq0.false c.in_ok-kind.ensures in
-    rw (opened, c.in-Product.is, product-number, ← c.in_err-first-in-Product.ensures) (refused_outcome c.from_residual-in_err-first-in-Product.result _ c.from_residual-in_err-first-in-Product.ensures.0)
+pub returns-in_err-term-in-Product : goal.returns-in_err-term-in-Product
+returns-in_err-term-in-Product t c =
+    rw (term_of_kind _ _ _ _ _ c.if-depth-eq0.false c.in_ok-kind.ensures, c.in-Product.is, product-number, ← c.in_err-term-in-Product.ensures) (refused_outcome c.from_residual-in_err-term-in-Product.result _ c.from_residual-in_err-term-in-Product.ensures.0)
 
-pub returns-in_err-second-in-Product : goal.returns-in_err-second-in-Product
-returns-in_err-second-in-Product t c =
-    let opened = term_of_kind c.args.depth 0 c.args.reader.now.rest.now _ _ c.if-depth-eq0.false c.in_ok-kind.ensures in
-    rw (opened, c.in-Product.is, product-number, ← c.in_ok-first-in-Product.ensures, ← c.in_err-second-in-Product.ensures) (refused_outcome c.from_residual-in_err-second-in-Product.result _ c.from_residual-in_err-second-in-Product.ensures.0)
+pub returns-in_err-term-in-Product-2 : goal.returns-in_err-term-in-Product-2
+returns-in_err-term-in-Product-2 t c =
+    rw (term_of_kind _ _ _ _ _ c.if-depth-eq0.false c.in_ok-kind.ensures, c.in-Product.is, product-number, ← c.in_ok-term-in-Product.ensures, ← c.in_err-term-in-Product-2.ensures) (refused_outcome c.from_residual-in_err-term-in-Product-2.result _ c.from_residual-in_err-term-in-Product-2.ensures.0)
 
-pub returns-in_ok-second-in-Product : goal.returns-in_ok-second-in-Product
-returns-in_ok-second-in-Product t c =
-    let opened = term_of_kind c.args.depth 0 c.args.reader.now.rest.now _ _ c.if-depth-eq0.false c.in_ok-kind.ensures in
-    rw (opened, c.in-Product.is, product-number, ← c.in_ok-first-in-Product.ensures, ← c.in_ok-second-in-Product.ensures) (ap (λ v. Read v c.term-in-Product-2.new.reader.rest.now) c.product.ensures)
+pub returns-in_ok-term-in-Product-2 : goal.returns-in_ok-term-in-Product-2
+returns-in_ok-term-in-Product-2 t c =
+    rw (term_of_kind _ _ _ _ _ c.if-depth-eq0.false c.in_ok-kind.ensures, c.in-Product.is, product-number, ← c.in_ok-term-in-Product.ensures, ← c.in_ok-term-in-Product-2.ensures) (ap (λ v. Read v c.term-in-Product-2.new.reader.rest.now) c.product.ensures)
 
 pub returns-in-Variable : goal.returns-in-Variable
 returns-in-Variable t c =
-    let opened = term_of_kind c.args.depth 0 c.args.reader.now.rest.now _ _ c.if-depth-eq0.false c.in_ok-kind.ensures in
-    rw (opened, no_ground_term _ _ _ c.in-Variable.is)
+    rw (term_of_kind _ _ _ _ _ c.if-depth-eq0.false c.in_ok-kind.ensures, no_ground_term _ _ _ c.in-Variable.is)
