@@ -2,16 +2,12 @@
 #![tactic(auto)]
 
 use std::io::Read;
-use word_text::answer::{line, verdict_of_text};
-
-fn run(rt: &HostRuntime) -> anyhow::Result<()> {
-    let mut text = Vec::new(rt.alloc());
-    rt.stdin().read_to_end(&mut text)?;
-    let verdict = verdict_of_text(rt.alloc(), &text)?;
-    rt.println(line(verdict))?;
-    Ok(())
-}
+use word_text::answer::{Line, verdict_of_text};
 
 fn main(rt: HostRuntime) -> anyhow::Result<()> {
-    run(&rt)
+    let mut text = Vec::new(rt.alloc());
+    rt.stdin().read_to_end(&mut text)?;
+    let line = Line(verdict_of_text(rt.alloc(), &text)?);
+    println!(rt; "{line}")?;
+    Ok(())
 }

@@ -3,9 +3,10 @@
 
 #[cfg(test)]
 mod tests {
-    use ground::verdict::Verdict;
+    use ground::ground::verdict;
     use std::test::Fail;
-    use word_text::answer::{line, verdict_of_text};
+    use word_text::answer::{Line, verdict_of_text};
+    use words::answer::Answer;
 
     // a text of words, and the line that answers it
     struct Case {
@@ -122,9 +123,14 @@ mod tests {
 
     #[test]
     fn table_of_cases(rt: HostRuntime) -> Result<(), Fail> {
-        for case in CASES.iter() {
-            let verdict = verdict_of_text(rt.alloc(), case.words.as_bytes())?;
-            assert!(rt; line(verdict) == case.line, "{}", case.words);
+        for case in &CASES {
+            let line = Line(verdict_of_text(rt.alloc(), case.words.as_bytes())?);
+            assert_eq!(rt;
+                format!(in rt.alloc(); "{line}")?.as_str(),
+                case.line,
+                "{}",
+                case.words
+            );
         }
         Ok(())
     }
@@ -141,7 +147,7 @@ mod tests {
             words.push(7)?;
             words.push(-1)?;
         }
-        assert!(rt; ground::ground::verdict(&words) == Verdict::Holds);
+        assert_eq!(rt; verdict(&words), Ok(Answer::Yes));
         Ok(())
     }
 }

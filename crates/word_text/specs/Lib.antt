@@ -1,4 +1,3 @@
 -- What a text of words reads as, and the line that answers it.
 pub mod Scan
-pub mod Kept
 pub mod Answer

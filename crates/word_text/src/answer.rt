@@ -1,31 +1,39 @@
 // The answer to a text of words, and the line that says it.
-ghost use Rattle.std.specs.Prelude.{◌≡◌, IfOk};
+ghost use Rattle.std.specs.Prelude.{◌≡◌, IfOk, Some};
 ghost use Rattle.word_text.specs.Answer.{verdict_of_text, line_of};
 
-use crate::scan::numbers;
+use crate::scan::{ScanError, numbers};
 use ground::ground::verdict;
-use ground::verdict::Verdict;
+use ground::verdict::{Refusal, Verdict};
 use std::alloc::{AllocError, Global};
+use std::fmt;
+use words::answer::Answer;
 
 // What is said of a text of words; anything that is no number makes it no sentence.
 pub fn verdict_of_text(heap: Global, text: &[u8]) -> Result<Verdict, AllocError>
     ensures { IfOk result (λ v. v ≡ verdict_of_text text.now) }
 {
-    match numbers(heap, text)? {
-        Some(words) => Ok(verdict(&words)),
-        None => Ok(Verdict::NotASentence),
+    match numbers(heap, text) {
+        Ok(words) => Ok(verdict(&words)),
+        Err(ScanError::NotNumbers) => Ok(Err(Refusal::NotASentence)),
+        Err(ScanError::OutOfMemory(error)) => Err(error),
     }
 }
 
 // The line that says it.
-pub fn line(verdict: Verdict) -> &'static str
-    ensures { result.now ≡ line_of verdict }
-{
-    match verdict {
-        Verdict::Holds => "holds",
-        Verdict::Fails => "fails",
-        Verdict::GivenUp => "given up",
-        Verdict::NotASentence => "no 3",
-        Verdict::NotDecided => "not decided yet",
+#[derive(Clone, Copy)]
+pub struct Line(pub Verdict);
+
+impl fmt::Display for Line {
+    ghost output = { λ line. Some (line_of line.0) };
+
+    fn fmt<W: fmt::Write>(&self, f: &mut fmt::Formatter<W>) -> fmt::Result {
+        f.write_str(match self.0 {
+            Ok(Answer::Yes) => "holds",
+            Ok(Answer::No) => "fails",
+            Ok(Answer::GivenUp) => "given up",
+            Err(Refusal::NotASentence) => "no 3",
+            Err(Refusal::NotDecided) => "not decided yet",
+        })
     }
 }

@@ -1,16 +1,23 @@
 // Numbers in decimal, parted by spaces and line ends, read byte by byte.
-ghost use Rattle.std.specs.Prelude.{◌≡◌, IfOk};
-ghost use Rattle.word_text.specs.Kept.{items_of};
-ghost use Rattle.word_text.specs.Scan.{number, digit_read, is_gap, stepped, Advances, numbers_of};
+ghost use Rattle.std.specs.Prelude.{◌≡◌, None, Some, MatchResult, alloc_error};
+ghost use Rattle.word_text.specs.Scan.{number, digit_read, is_gap, moved, stepped, Advances, numbers_of};
+ghost use Rattle.word_text.specs.declared.scan.ScanError.TheVariants.{NotNumbers, OutOfMemory};
 
-use std::alloc::{AllocError, Global};
+use std::alloc::{AllocError, AllocFailed, Global};
+
+// A number as far as it is read.
+#[derive(Clone, Copy)]
+pub struct Numeral {
+    pub negative: bool,
+    pub size: u32,
+}
 
 // Where the reader is: between numbers, behind a minus, or inside a number.
 #[derive(Clone, Copy)]
 pub enum Place {
     Between,
     Minus,
-    Inside { negative: bool, size: u32 },
+    Inside(Numeral),
 }
 
 // Where a byte leads to, and the number that it ends, if it ends one.
@@ -20,32 +27,69 @@ pub struct Progress {
     pub number: Option<i64>,
 }
 
-// The number of this size and sign.
-fn signed(negative: bool, size: u32) -> i64
-    ensures { result ≡ number negative size }
-{
-    let z = i64::from(size);
-    if negative { -z } else { z }
+// Why a text gives no numbers.
+#[derive(Clone, Copy, PartialEq, Eq, Debug)]
+pub enum ScanError {
+    NotNumbers,
+    OutOfMemory(AllocError),
 }
 
-// One digit more, while the number has at most nine.
-fn digit(negative: bool, size: u32, byte: u8) -> Option<Progress>
-    ensures { result ≡ digit_read negative size byte }
-{
-    if byte < b'0' || byte > b'9' || size >= 100000000 {
-        return None;
+impl<T: Drop> From<AllocFailed<T>> for ScanError {
+    ghost from_gives = { λ _ error. error ≡ OutOfMemory alloc_error };
+
+    fn from(failed: AllocFailed<T>) -> ScanError {
+        ScanError::OutOfMemory(AllocError::from(failed))
     }
-    let size = size * 10 + u32::from(byte - b'0');
+}
+
+impl From<Numeral> for i64 {
+    ghost from_gives = { λ numeral z. z ≡ number numeral };
+
+    fn from(numeral: Numeral) -> i64 {
+        let size = i64::from(numeral.size);
+        if numeral.negative { -size } else { size }
+    }
+}
+
+impl Numeral {
+    // No digit yet, and no minus.
+    const PLAIN: Numeral = Numeral {
+        negative: false,
+        size: 0,
+    };
+
+    // No digit yet, behind a minus.
+    const NEGATIVE: Numeral = Numeral {
+        negative: true,
+        size: 0,
+    };
+
+    // One digit more, while the number has at most nine.
+    fn digit(self, byte: u8) -> Option<Progress>
+        ensures { result ≡ digit_read self byte }
+    {
+        if !byte.is_ascii_digit() || self.size >= 100000000 {
+            return None;
+        }
+        let size = self.size * 10 + u32::from(byte - b'0');
+        moved(Place::Inside(Numeral { size, ..self }))
+    }
+}
+
+// To this place, with no number ended.
+fn moved(place: Place) -> Option<Progress>
+    ensures { result ≡ moved place }
+{
     Some(Progress {
-        place: Place::Inside { negative, size },
+        place,
         number: None,
     })
 }
 
-fn parts(byte: u8) -> bool
+fn is_gap(byte: u8) -> bool
     ensures { result ≡ is_gap byte }
 {
-    byte == b' ' || byte == b'\n' || byte == b'\r'
+    matches!(byte, b' ' | b'\n' | b'\r')
 }
 
 // None where the byte doesn't fit.
@@ -53,62 +97,38 @@ pub fn step(place: Place, byte: u8) -> Option<Progress>
     ensures { result ≡ stepped place byte }
 {
     match place {
-        Place::Between => {
-            if parts(byte) {
-                Some(Progress {
-                    place: Place::Between,
-                    number: None,
-                })
-            } else if byte == b'-' {
-                Some(Progress {
-                    place: Place::Minus,
-                    number: None,
-                })
-            } else {
-                digit(false, 0, byte)
-            }
-        }
-        Place::Minus => digit(true, 0, byte),
-        Place::Inside { negative, size } => {
-            if parts(byte) {
-                Some(Progress {
-                    place: Place::Between,
-                    number: Some(signed(negative, size)),
-                })
-            } else {
-                digit(negative, size, byte)
-            }
-        }
+        Place::Between if is_gap(byte) => moved(Place::Between),
+        Place::Between if byte == b'-' => moved(Place::Minus),
+        Place::Between => Numeral::PLAIN.digit(byte),
+        Place::Minus => Numeral::NEGATIVE.digit(byte),
+        Place::Inside(numeral) if is_gap(byte) => Some(Progress {
+            place: Place::Between,
+            number: Some(numeral.into()),
+        }),
+        Place::Inside(numeral) => numeral.digit(byte),
     }
 }
 
-// Takes a byte, and notes the number that it ends; None where the byte doesn't fit.
-fn advance(found: &mut Vec<i64>, place: Place, byte: u8) -> Result<Option<Place>, AllocError>
-    ensures { IfOk result (λ o. Advances (stepped place byte) found.old.items o found.new.items) }
+// Takes a byte, and notes the number that it ends.
+fn advance(found: &mut Vec<i64>, place: Place, byte: u8) -> Result<Place, ScanError>
+    ensures { Advances (stepped place byte) found.old.items result found.new.items }
 {
-    let Some(progress) = step(place, byte) else {
-        return Ok(None);
-    };
-    if let Some(z) = progress.number {
-        found.push(z)?;
+    let progress = step(place, byte).ok_or(ScanError::NotNumbers)?;
+    if let Some(number) = progress.number {
+        found.push(number)?;
     }
-    Ok(Some(progress.place))
+    Ok(progress.place)
 }
 
-// The numbers of a text, which ends as if a space came after it; None where it has anything else.
-pub fn numbers(heap: Global, text: &[u8]) -> Result<Option<Vec<i64>>, AllocError>
-    ensures { IfOk result (λ o. items_of o ≡ numbers_of text.now) }
+// The numbers of a text, which ends as if a space came after it.
+pub fn numbers(heap: Global, text: &[u8]) -> Result<Vec<i64>, ScanError>
+    ensures { MatchResult result (λ found. numbers_of text.now ≡ Some found.items) (λ error. error ≡ NotNumbers → numbers_of text.now ≡ None) }
 {
     let mut found = Vec::new(heap);
     let mut place = Place::Between;
     for byte in text {
-        let Some(next) = advance(&mut found, place, *byte)? else {
-            return Ok(None);
-        };
-        place = next;
+        place = advance(&mut found, place, *byte)?;
     }
-    match advance(&mut found, place, b' ')? {
-        Some(_) => Ok(Some(found)),
-        None => Ok(None),
-    }
+    advance(&mut found, place, b' ')?;
+    Ok(found)
 }

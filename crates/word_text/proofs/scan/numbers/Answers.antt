@@ -1,37 +1,27 @@
 -- Each byte, and the end, as the definition takes them.
-use Rattle.std.proofs.Common.{◌<◌, ◌≤◌, length, get_or, vec_items, sym, ◌∙◌, subst, arith}
-use Rattle.word_text.specs.Scan.{Advances, stepped}
+use Rattle.std.proofs.Common.{◌<◌, ◌≤◌, length, sym, ◌∙◌, arith}
+use Rattle.std.proofs.lemmas.Result.{err_from_is_err_and}
 use Rattle.word_text.proofs.Scanned.{refused_inside, read-inside, refused_at_end, read_at_end}
 use Rattle.word_text.proofs.scan.numbers.Goals as goal
 
-pub returns-in_default : goal.returns-in_default
-returns-in_default c =
-    let text = c.args.text.now in
-    let within : c.loop-byte.byte-index < length text = omega arith in
-    let taken = subst (λ o. Advances (stepped c.loop-byte.place (get_or text c.loop-byte.byte-index 0)) (vec_items c.loop-byte.found) o (vec_items c.advance.new.found))
-    c.in_default.is c.in_ok-next.ensures in
-    sym (refused_inside text c.loop-byte.byte-index within c.loop-byte.place _ _ taken) ∙ c.loop-byte.invariant
+pub returns-in_err-place : goal.returns-in_err-place
+returns-in_err-place c =
+    let within : c.loop-byte.byte-index < length c.args.text.now = omega arith in
+    let p = err_from_is_err_and c.from_residual.result c.from_residual.ensures.1 in
+    rw p.1 (λ e. sym c.loop-byte.invariant ∙ refused_inside c.args.text.now _ within _ _ _ _ (sym p.2 ∙ e) c.in_err-place.ensures)
 
 pub loop-byte-preserved : goal.loop-byte-preserved
 loop-byte-preserved c =
-    let text = c.args.text.now in
-    let within : c.loop-byte.byte-index < length text = omega arith in
-    let taken = subst (λ o. Advances (stepped c.loop-byte.place (get_or text c.loop-byte.byte-index 0)) (vec_items c.loop-byte.found) o (vec_items c.advance.new.found))
-    c.in-Some.is c.in_ok-next.ensures in
-    sym (read-inside text c.loop-byte.byte-index within c.loop-byte.place _ _ c.in-Some.next taken) ∙ c.loop-byte.invariant
+    let within : c.loop-byte.byte-index < length c.args.text.now = omega arith in
+    sym (read-inside c.args.text.now _ within _ _ _ _ c.in_ok-place.ensures) ∙ c.loop-byte.invariant
 
-pub returns-in-Some-2 : goal.returns-in-Some-2
-returns-in-Some-2 c =
-    let text = c.args.text.now in
-    let beyond : length text ≤ c.loop-byte.byte-index = omega arith in
-    let taken = subst (λ o. Advances (stepped c.loop-byte.place 32) (vec_items c.loop-byte.found) o (vec_items c.advance-2.new.found))
-    c.in-Some-2.is c.in_ok-advance.ensures in
-    sym (read_at_end text c.loop-byte.byte-index beyond c.loop-byte.place _ _ c.in-Some-2.field-0 taken) ∙ c.loop-byte.invariant
+pub returns-in_err-advance : goal.returns-in_err-advance
+returns-in_err-advance c =
+    let beyond : length c.args.text.now ≤ c.loop-byte.byte-index = omega arith in
+    let p = err_from_is_err_and c.from_residual-in_err-advance.result c.from_residual-in_err-advance.ensures.1 in
+    rw p.1 (λ e. sym c.loop-byte.invariant ∙ refused_at_end c.args.text.now _ beyond _ _ _ _ (sym p.2 ∙ e) c.in_err-advance.ensures)
 
-pub returns-in-None : goal.returns-in-None
-returns-in-None c =
-    let text = c.args.text.now in
-    let beyond : length text ≤ c.loop-byte.byte-index = omega arith in
-    let taken = subst (λ o. Advances (stepped c.loop-byte.place 32) (vec_items c.loop-byte.found) o (vec_items c.advance-2.new.found))
-    c.in-None.is c.in_ok-advance.ensures in
-    sym (refused_at_end text c.loop-byte.byte-index beyond c.loop-byte.place _ _ taken) ∙ c.loop-byte.invariant
+pub returns : goal.returns
+returns c =
+    let beyond : length c.args.text.now ≤ c.loop-byte.byte-index = omega arith in
+    sym c.loop-byte.invariant ∙ read_at_end c.args.text.now _ beyond _ _ _ _ c.in_ok-advance.ensures
