@@ -111,11 +111,20 @@ unfolding quantifiers_at
 no_quantifier zero zs e = refl
 no_quantifier (suc n) zs e = absurd (omega arith)
 
-pub one_quantifier : (n k : ℕ) (zs : List ℤ) → n ≡ k + 1 →
-    mapped skipped (quantifiers_at n zs) ≡ then (meant quantifier_of zs) (λ _ rest. mapped skipped (quantifiers_at k rest))
+pub one_quantifier : (n : ℕ) (zs : List ℤ) → (n ≡ 0 → ⊥) →
+    mapped skipped (quantifiers_at n zs) ≡ then (meant quantifier_of zs) (λ _ rest. mapped skipped (quantifiers_at (n - 1) rest))
 unfolding quantifiers_at
-one_quantifier n k zs e = ap (λ m. mapped skipped (quantifiers_at m zs)) (e ∙ add-one k) ∙ first (meant quantifier_of zs)
+one_quantifier zero zs h = absurd (h refl)
+one_quantifier (suc n) zs h =
+    let e : suc n - 1 ≡ n = omega arith in first (meant quantifier_of zs) ∙ ap (λ k. then (meant quantifier_of zs) (λ _ rest. mapped skipped (quantifiers_at k rest))) (sym e)
   where
-    first : (m : Reading Bool) → mapped skipped (then m (λ q rest. mapped (λ qs. q ∷ qs) (quantifiers_at k rest))) ≡ then m (λ _ rest. mapped skipped (quantifiers_at k rest))
+    first : (m : Reading Bool) → mapped skipped (then m (λ q rest. mapped (λ qs. q ∷ qs) (quantifiers_at n rest))) ≡ then m (λ _ rest. mapped skipped (quantifiers_at n rest))
     first Refused = refl
-    first (Read q rest) = skipped-mapped (λ qs. q ∷ qs) (quantifiers_at k rest)
+    first (Read q rest) = skipped-mapped (λ qs. q ∷ qs) (quantifiers_at n rest)
+
+-- the level below, passed over
+pub ruleset term_steps = (term_none, term_open, skipped-mapped, skipped-two)
+
+pub ruleset formula_steps = (formula_none, formula_open, skipped-mapped, skipped-two)
+
+pub ruleset quantifier_steps = (no_quantifier, one_quantifier)

@@ -80,6 +80,7 @@ impl Reader<'_> {
     }
 
     // Passes over a term about so many variables, nested at most so deep.
+    #[tactic(auto, using(crate::proofs::Words::term_steps))]
     pub fn skip_term(&mut self, depth: usize, variables: u8) -> Result<(), NotASentence>
         ensures { outcome result self.new.rest.now ≡ mapped skipped (term_at depth variables self.old.rest.now) }
     {
@@ -106,6 +107,7 @@ impl Reader<'_> {
     }
 
     // Passes over a formula about so many variables, nested at most so deep.
+    #[tactic(auto, using(crate::proofs::Words::formula_steps))]
     pub fn skip_formula(&mut self, depth: usize, variables: u8) -> Result<(), NotASentence>
         ensures { outcome result self.new.rest.now ≡ mapped skipped (formula_at depth variables self.old.rest.now) }
     {
@@ -124,6 +126,7 @@ impl Reader<'_> {
     }
 
     // Passes over so many quantifiers.
+    #[tactic(auto, using(crate::proofs::Words::quantifier_steps))]
     pub fn skip_quantifiers(&mut self, count: u8) -> Result<(), NotASentence>
         ensures { outcome result self.new.rest.now ≡ mapped skipped (quantifiers_at count self.old.rest.now) }
     {
