@@ -1,12 +1,12 @@
 -- The number of a term and the outline of a formula, a kind at a time, from those of the parts.
-use Rattle.std.proofs.Common.{◌≡◌, cond, ◌⊎◌, List, [], ◌∷◌, ℤ, pos, negsuc, ◌+ℤ◌, ◌*ℤ◌, Some, None, refl, ap, inl, inr}
+use Rattle.std.proofs.Common.{◌≡◌, cond, List, [], ◌∷◌, ℤ, pos, negsuc, ◌+ℤ◌, ◌*ℤ◌, Some, None, refl, ap}
 use lib.Dec.{leb-suc-zero}
-use Rattle.field.specs.Sentence.{Term, Var, Num, Sum, Product, Formula, BelowZero, EqualsZero, Not, And, Or}
+use Rattle.field.specs.Sentence.{Term, Num, Sum, Product, Formula, BelowZero, EqualsZero, Not, And, Or}
 use Rattle.words.specs.declared.kind.Kind.{Kind}
 use Rattle.words.specs.Reading.{Reading, Refused, Read, mapped, two, meant, if_some}
 use Rattle.words.specs.Words.{term_by, formula_by, variable_of}
 use Rattle.words.specs.Words as words
-use Rattle.words.proofs.Words.{mapped-two}
+use Rattle.words.proofs.Words.{term_none, term_open, formula_none, formula_open, mapped-two}
 use Rattle.words.specs.declared.answer.Answer.TheVariants.{Yes, No}
 use Rattle.ground.specs.Ground.{modest, on_both, number_of}
 use Rattle.ground.specs.Outline.{outline_of, compared, negated, conjoined}
@@ -29,19 +29,10 @@ module _ (go : List ℤ → Reading Term) (zs : List ℤ) where
   product-number = mapped-two number_of number_of Product (on_both (λ x y. modest (x *ℤ y))) (λ s t. refl) go zs
 
 -- there are no variables
-no_variable : (zs : List ℤ) → meant (variable_of 0) zs ≡ Refused
+pub no_variable : (zs : List ℤ) → meant (variable_of 0) zs ≡ Refused
 no_variable [] = refl
 no_variable (pos i ∷ zs) = ap (λ b. if_some (cond b (Some i) None) zs) (leb-suc-zero i)
 no_variable (negsuc i ∷ zs) = refl
-
-pub no_ground_term : (go : List ℤ → Reading Term) (k : Kind) (zs : List ℤ) →
-    (k ≡ Kind.Variable) ⊎ ((k ≡ Kind.BelowZero) ⊎ ((k ≡ Kind.EqualsZero) ⊎ ((k ≡ Kind.Not) ⊎ ((k ≡ Kind.And) ⊎ (k ≡ Kind.Or))))) → term_by 0 go k zs ≡ Refused
-no_ground_term go k zs (inl e) = rw e (ap (mapped Var) (no_variable zs))
-no_ground_term go k zs (inr (inl e)) = rw e
-no_ground_term go k zs (inr (inr (inl e))) = rw e
-no_ground_term go k zs (inr (inr (inr (inl e)))) = rw e
-no_ground_term go k zs (inr (inr (inr (inr (inl e))))) = rw e
-no_ground_term go k zs (inr (inr (inr (inr (inr e))))) = rw e
 
 module _ (term : List ℤ → Reading Term) (go : List ℤ → Reading Formula) (zs : List ℤ) where
   pub below_outline : mapped outline_of (formula_by term go Kind.BelowZero zs) ≡ mapped (λ v. compared v Yes No No 1 2) (mapped number_of (term zs))
@@ -75,3 +66,9 @@ module _ (term : List ℤ → Reading Term) (go : List ℤ → Reading Formula) 
   pub or_outline : mapped outline_of (formula_by term go Kind.Or zs) ≡ two (λ p q. negated (conjoined (negated p) (negated q))) (λ ws. mapped outline_of (go ws)) zs
   unfolding outline_of
   or_outline = mapped-two outline_of outline_of Or (λ p q. negated (conjoined (negated p) (negated q))) (λ p q. refl) go zs
+
+-- the level below, with its numbers
+pub ruleset term_steps = (term_none, term_open, number-number, sum_number, product-number, no_variable)
+
+-- the level below, with its outlines
+pub ruleset formula_steps = (formula_none, formula_open, below_outline, equals_outline, not_outline, and_outline, or_outline)

@@ -34,6 +34,7 @@ fn verdict_of_body(body: &[i64]) -> Verdict
 }
 
 // A term's number, if it is modest.
+#[tactic(auto, using(crate::proofs::Values::term_steps))]
 fn term(reader: &mut Reader, depth: usize) -> Result<Option<i64>, NotASentence>
     ensures { outcome result reader.new.rest.now ≡ mapped number_of (term_at depth 0 reader.old.rest.now) }
 {
@@ -49,6 +50,7 @@ fn term(reader: &mut Reader, depth: usize) -> Result<Option<i64>, NotASentence>
     }
 }
 
+#[tactic(auto, using(crate::proofs::Values::formula_steps))]
 fn formula(reader: &mut Reader, depth: usize) -> Result<Outline, NotASentence>
     ensures { outcome result reader.new.rest.now ≡ mapped outline_of (formula_at depth 0 reader.old.rest.now) }
 {

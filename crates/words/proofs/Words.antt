@@ -1,9 +1,9 @@
 -- What words read as, a level at a time, and what is left of it where the parts are only passed over.
-use Rattle.std.proofs.Common.{◌≡◌, ℕ, zero, suc, ◌+◌, ◌-◌, Bool, true, ◌⊎◌, List, ◌∷◌, ℤ, is_err, Ok, Err, Result, sym, refl, ap, ◌∙◌, inl, inr, add-one, arith}
-use Rattle.field.specs.Sentence.{Term, Sum, Product, Formula, BelowZero, EqualsZero, And, Or}
+use Rattle.std.proofs.Common.{◌≡◌, ℕ, zero, suc, ◌-◌, Bool, ◌⊎◌, List, ◌∷◌, ℤ, sym, refl, ap, ◌∙◌, inl, inr, arith}
+use Rattle.field.specs.Sentence.{Term}
 use Rattle.words.specs.declared.kind.Kind.{Kind}
 use Rattle.words.specs.Kind.{kind_of}
-use Rattle.words.specs.Reading.{Reading, Refused, Read, outcome, then, mapped, skipped, two, meant}
+use Rattle.words.specs.Reading.{Reading, Refused, Read, then, mapped, skipped, two, meant}
 use Rattle.words.specs.Words.{term_by, term_at, formula_by, formula_at, quantifier_of, quantifiers_at}
 
 pub term_none : (d v : ℕ) (zs : List ℤ) → d ≡ 0 → term_at d v zs ≡ Refused
@@ -71,16 +71,6 @@ pub formula_of_kind : (d v : ℕ) (zs rest : List ℤ) (k : Kind) → (d ≡ 0 �
     formula_at d v zs ≡ formula_by (term_at (d - 1) v) (formula_at (d - 1) v) k rest
 formula_of_kind d v zs rest k n e = formula_open d v zs n ∙ ap (λ m. then m (formula_by (term_at (d - 1) v) (formula_at (d - 1) v))) (sym e)
 
-pub refused_outcome : {A E : Type 0} (r : Result A E) (after : List ℤ) → is_err r ≡ true → outcome r after ≡ Refused
-refused_outcome (Ok a) after e = let z : ◌≡◌ {A = ℕ} 0 1 = cc in absurd (omega arith)
-refused_outcome (Err x) after e = refl
-
--- the level below, passed over
-pub skipped-term_pair : (v : ℕ) (go : List ℤ → Reading Term) (k : Kind) (zs : List ℤ) → (k ≡ Kind.Sum) ⊎ (k ≡ Kind.Product) →
-    mapped skipped (term_by v go k zs) ≡ then (mapped skipped (go zs)) (λ _ rest. mapped skipped (go rest))
-skipped-term_pair v go k zs (inl e) = rw e (skipped-two Sum go zs)
-skipped-term_pair v go k zs (inr e) = rw e (skipped-two Product go zs)
-
 pub no_term : (v : ℕ) (go : List ℤ → Reading Term) (k : Kind) (zs : List ℤ) →
     (k ≡ Kind.BelowZero) ⊎ ((k ≡ Kind.EqualsZero) ⊎ ((k ≡ Kind.Not) ⊎ ((k ≡ Kind.And) ⊎ (k ≡ Kind.Or)))) → term_by v go k zs ≡ Refused
 no_term v go k zs (inl e) = rw e
@@ -88,23 +78,6 @@ no_term v go k zs (inr (inl e)) = rw e
 no_term v go k zs (inr (inr (inl e))) = rw e
 no_term v go k zs (inr (inr (inr (inl e)))) = rw e
 no_term v go k zs (inr (inr (inr (inr e)))) = rw e
-
-pub skipped-comparison : (term : List ℤ → Reading Term) (go : List ℤ → Reading Formula) (k : Kind) (zs : List ℤ) → (k ≡ Kind.BelowZero) ⊎ (k ≡ Kind.EqualsZero) →
-    mapped skipped (formula_by term go k zs) ≡ mapped skipped (term zs)
-skipped-comparison term go k zs (inl e) = rw e (skipped-mapped BelowZero (term zs))
-skipped-comparison term go k zs (inr e) = rw e (skipped-mapped EqualsZero (term zs))
-
-pub skipped-formula_pair : (term : List ℤ → Reading Term) (go : List ℤ → Reading Formula) (k : Kind) (zs : List ℤ) → (k ≡ Kind.And) ⊎ (k ≡ Kind.Or) →
-    mapped skipped (formula_by term go k zs) ≡ then (mapped skipped (go zs)) (λ _ rest. mapped skipped (go rest))
-skipped-formula_pair term go k zs (inl e) = rw e (skipped-two And go zs)
-skipped-formula_pair term go k zs (inr e) = rw e (skipped-two Or go zs)
-
-pub no_formula : (term : List ℤ → Reading Term) (go : List ℤ → Reading Formula) (k : Kind) (zs : List ℤ) →
-    (k ≡ Kind.Variable) ⊎ ((k ≡ Kind.Number) ⊎ ((k ≡ Kind.Sum) ⊎ (k ≡ Kind.Product))) → formula_by term go k zs ≡ Refused
-no_formula term go k zs (inl e) = rw e
-no_formula term go k zs (inr (inl e)) = rw e
-no_formula term go k zs (inr (inr (inl e))) = rw e
-no_formula term go k zs (inr (inr (inr e))) = rw e
 
 pub no_quantifier : (n : ℕ) (zs : List ℤ) → n ≡ 0 → mapped skipped (quantifiers_at n zs) ≡ Read tt zs
 unfolding quantifiers_at
