@@ -121,6 +121,7 @@ fn advance(found: &mut Vec<i64>, place: Place, byte: u8) -> Result<Place, ScanEr
 }
 
 // The numbers of a text, which ends as if a space came after it.
+#[tactic(auto, using(crate::proofs::Scanned::scan_steps))]
 pub fn numbers(heap: Global, text: &[u8]) -> Result<Vec<i64>, ScanError>
     ensures { MatchResult result (λ found. numbers_of text.now ≡ Some found.items) (λ error. error ≡ NotNumbers → numbers_of text.now ≡ None) }
 {
