@@ -12,6 +12,7 @@ pub fn modest_number(z: i64) -> Option<i64>
     }
 }
 
+// Sum and product differ in one word: a function over the operation would be longer, with its contract, than both.
 pub fn sum(a: Option<i64>, b: Option<i64>) -> Option<i64>
     ensures { result ≡ on_both (λ x y. modest (x +ℤ y)) a b }
 {

@@ -79,7 +79,7 @@ impl Reader<'_> {
         }
     }
 
-    // Passes over a term about so many variables, nested at most so deep.
+    // Passes over a term about so many variables, nested at most so deep. At each level the depth falls and the variables stay: a struct of both would only be taken apart.
     #[tactic(auto, using(crate::proofs::Words::term_steps))]
     pub fn skip_term(&mut self, depth: usize, variables: u8) -> Result<(), NotASentence>
         ensures { outcome result self.new.rest.now ≡ mapped skipped (term_at depth variables self.old.rest.now) }
