@@ -1,6 +1,6 @@
 -- A chain of tables closed, and a whole run through it, on the lists that the code's slices hold. Assumes nothing.
 use Rattle.std.proofs.Common.{◌≡◌, ℕ, zero, suc, ◌+◌, ◌-◌, ◌<◌, ◌≤◌, List, [], ◌∷◌, ◌++◌, length, get_or, take, drop, set, replicate, Some, None, sym, refl, ap, ◌∙◌, ap₂, add-one, arith, take_all, take-suc-set}
-use mathlib.Core.List.{map, foldl}
+use mathlib.Core.List.{foldl}
 use borrow.Rule.Slice.PartMut.{put_mid}
 use Rattle.field.specs.declared.sign.Sign.{Sign}
 use Rattle.stream.specs.Stage.{Outcome, Gap, Went, upon, outermost_rows}
@@ -26,13 +26,13 @@ rest_put (x ∷ xs) ys h = ap (λ zs. take (length zs - 1) (drop 1 zs)) (put_res
 
 module _ {A : Type 0} (grow : A → List Sign → A) where
   pub no_table_closed : (stages : List Stage) (cs : List TableCell) (a : A) → length stages ≡ 0 → closed grow (stages_of stages) cs a ≡ Went a
-  unfolding closed map
+  unfolding closed
   no_table_closed [] cs a h = refl
   no_table_closed (s ∷ stages) cs a h = absurd (omega arith)
 
   pub end_gap : (stages : List Stage) (cells : List Cell) (e : Cell) (a : A) (r : Taken) → (length stages ≡ 0 → ⊥) → length stages ≤ length cells →
       EndTakenAs (get_or cells 0 e) r → r.leaving ≡ None → closed grow (stages_of stages) (cells_of cells) a ≡ Gap
-  unfolding closed map
+  unfolding closed
   end_gap [] cells e a r h l s n = absurd (h refl)
   end_gap (f ∷ stages) [] e a r h l s n = absurd (omega arith)
   end_gap (f ∷ stages) (c ∷ cells) e a r h l s n =
@@ -47,7 +47,7 @@ module _ {A : Type 0} (grow : A → List Sign → A) where
       pushed_all (pushed grow (stages_of rest)) (cells_of (take (length cells - 1) (drop 1 cells))) a (entry_rows (stage_of (get_or stages 0 d)) o o es) ≡ G →
       upon G (λ t. closed grow (stages_of rest) t.cells t.sink) ≡ R →
       closed grow (stages_of stages) (cells_of cells) a ≡ R)
-  unfolding closed map
+  unfolding closed
   end_given [] cells d e a r l es o G R h le s n he ho given k = absurd (h refl)
   end_given (f ∷ stages) [] d e a r l es o G R h le s n he ho given k = absurd (omega arith)
   end_given (f ∷ stages) (c ∷ cells) d e a r l es o G R h le s n he ho given k =
@@ -63,7 +63,6 @@ module _ {A : Type 0} (grow : A → List Sign → A) where
       ∙ k
 
   fresh_cells : (stages : List Stage) (n : ℕ) → length stages ≡ n → cells_of (replicate n empty_cell) ≡ fresh (stages_of stages)
-  unfolding map
   fresh_cells [] zero h = refl
   fresh_cells [] (suc n) h = absurd (omega arith)
   fresh_cells (s ∷ stages) zero h = absurd (omega arith)

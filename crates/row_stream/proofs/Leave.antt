@@ -1,6 +1,5 @@
 -- The rows that leave a table, from p's signs and where they are. Assumes nothing.
 use Rattle.std.proofs.Common.{◌≡◌, Bool, true, false, cond, List, [], ◌∷◌, take, drop, sym, refl, ap, ◌∙◌, ap₂}
-use mathlib.Core.List.{map}
 use Rattle.field.specs.declared.sign.Sign.{Sign}
 use Rattle.field.specs.declared.sign.Sign.TheVariants.{Zero}
 use Rattle.field.specs.Sign.{flip}
@@ -28,7 +27,7 @@ module _ (f : TableStage) (o : List Sign) where
   until_point_if_lem Lost p x = refl
 
   rows_if : (b : Bool) (w : Way) (p : Known) (x : List Sign) → until_point_if b w p x ≡ upon (entries_to_point w p b) (λ es. Went (entry_rows f o x es))
-  unfolding until_point_if map
+  unfolding until_point_if
   rows_if true (Stays s) p x = refl
   rows_if true (Crosses s) p x = refl
   rows_if true Lost p x = refl
@@ -46,7 +45,6 @@ module _ (f : TableStage) (o : List Sign) where
       ∙ ap (λ r. upon r (λ es. Went (record { cell = OnlySide (AfterPoint p); leaving = entry_rows f o x es }))) (sym e)
 
   rows_at_end : (w : Way) → until_end f w o ≡ upon (entries_to_end w) (λ es. Went (entry_rows f o o es))
-  unfolding map
   rows_at_end (Stays s) = refl
   rows_at_end (Crosses s) = refl
   rows_at_end Lost = refl
@@ -60,13 +58,13 @@ module _ (f : TableStage) (side : TableSide) (row : List Sign) where
   -- an interval comes
   pub interval-held : (o x : List Sign) (es : List Entry) → o ≡ take f.divisors row → es ≡ [] →
       stepped f (OnlySide side) row ≡ Went (record { cell = WithInterval side o; leaving = entry_rows f o x es })
-  unfolding stepped map
+  unfolding stepped
   interval-held o x es ho he = ap₂ (λ z ys. Went (record { cell = WithInterval side z; leaving = ys })) (sym ho) (ap (entry_rows f o x) (sym he))
 
   -- a point that goes
   pub point_goes : (o z : List Sign) (es : List Entry) → z ≡ take f.divisors row → false ≡ any_zero z → es ≡ [] →
       stepped f (WithInterval side o) row ≡ Went (record { cell = OnlySide side; leaving = entry_rows f o (take f.divisors row) es })
-  unfolding stepped map
+  unfolding stepped
   point_goes o z es hz h he =
       let x = take f.divisors row in
       ap (λ b. point_taken b f side o (at_root x (drop f.divisors row)) x) (sym (h ∙ ap any_zero hz))
@@ -84,5 +82,5 @@ module _ (f : TableStage) (side : TableSide) (row : List Sign) where
 
 -- nothing is held at the end
 pub nothing-held : (f : TableStage) (side : TableSide) (o : List Sign) (es : List Entry) → es ≡ [] → closing f (OnlySide side) ≡ Went (entry_rows f o o es)
-unfolding closing map
+unfolding closing
 nothing-held f side o es he = ap (λ z. Went (entry_rows f o o z)) (sym he)

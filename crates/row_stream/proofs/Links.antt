@@ -1,6 +1,5 @@
 -- One link of a chain of tables, on the lists that the code's slices hold. Assumes nothing.
 use Rattle.std.proofs.Common.{◌≡◌, ◌-◌, ◌≤◌, Bool, true, false, List, [], ◌∷◌, ◌++◌, length, get_or, take, drop, set, Some, None, sym, refl, ap, ◌∙◌, ap₂, append-nil, arith, drop_of_length-le, take_all}
-use mathlib.Core.List.{map}
 use borrow.Rule.Slice.PartMut.{put_mid}
 use Rattle.field.specs.declared.sign.Sign.{Sign}
 use Rattle.stream.specs.Stage.{Stage as TableStage, Outcome, Gap, Went, upon}
@@ -35,19 +34,19 @@ kept_back false c cs b = refl
 
 module _ {A : Type 0} (push : List TableCell → A → List Sign → Outcome (State A)) (f : TableStage) (o x : List Sign) where
   pub none_given : (cs : List TableCell) (a : A) (es : List Entry) → length es ≡ 0 → pushed_all push cs a (entry_rows f o x es) ≡ Went (record { cells = cs; sink = a })
-  unfolding pushed_all map
+  unfolding pushed_all
   none_given cs a [] h = refl
   none_given cs a (e ∷ es) h = absurd (omega arith)
 
   pub first_gap : (cs : List TableCell) (a : A) (es : List Entry) (d : Entry) (row : List Sign) → (length es ≡ 0 → ⊥) → row ≡ entry_row f o x (get_or es 0 d) → push cs a row ≡ Gap →
       pushed_all push cs a (entry_rows f o x es) ≡ Gap
-  unfolding pushed_all map
+  unfolding pushed_all
   first_gap cs a [] d row h e g = absurd (h refl)
   first_gap cs a (u ∷ es) d row h e g = ap (λ r. upon r (λ s. pushed_all push s.cells s.sink (entry_rows f o x es))) (ap (push cs a) (sym e) ∙ g)
 
   pub first_given : (cs ds : List TableCell) (a b : A) (es : List Entry) (d : Entry) (row : List Sign) (R : Outcome (State A)) → (length es ≡ 0 → ⊥) → row ≡ entry_row f o x (get_or es 0 d) →
       push cs a row ≡ Went (record { cells = ds; sink = b }) → pushed_all push ds b (entry_rows f o x (take (length es - 1) (drop 1 es))) ≡ R → pushed_all push cs a (entry_rows f o x es) ≡ R
-  unfolding pushed_all map
+  unfolding pushed_all
   first_given cs ds a b [] d row R h e g k = absurd (h refl)
   first_given cs ds a b (u ∷ es) d row R h e g k =
       ap (λ r. upon r (λ s. pushed_all push s.cells s.sink (entry_rows f o x es))) (ap (push cs a) (sym e) ∙ g)
@@ -57,14 +56,14 @@ module _ {A : Type 0} (push : List TableCell → A → List Sign → Outcome (St
 module _ {A : Type 0} (grow : A → List Sign → A) where
   pub no_table : (stages : List Stage) (cs : List TableCell) (a b : A) (row : List Sign) → length stages ≡ 0 → b ≡ grow a row →
       pushed grow (stages_of stages) cs a row ≡ Went (record { cells = cs; sink = b })
-  unfolding pushed map
+  unfolding pushed
   no_table [] cs a b row h e = ap (λ z. Went (record { cells = cs; sink = z })) (sym e)
   no_table (s ∷ stages) cs a b row h e = absurd (omega arith)
 
   pub table_gap : (stages : List Stage) (cells : List Cell) (d : Stage) (e : Cell) (a : A) (row x : List Sign) (r : Taken) → (length stages ≡ 0 → ⊥) → length stages ≤ length cells →
       stepped (stage_of (get_or stages 0 d)) (cell_of (get_or cells 0 e)) row ≡ taken_of (stage_of (get_or stages 0 d)) x r → r.leaving ≡ None →
       pushed grow (stages_of stages) (cells_of cells) a row ≡ Gap
-  unfolding pushed map
+  unfolding pushed
   table_gap [] cells d e a row x r h l s n = absurd (h refl)
   table_gap (f ∷ stages) [] d e a row x r h l s n = absurd (omega arith)
   table_gap (f ∷ stages) (c ∷ cells) d e a row x r h l s n =
@@ -85,7 +84,7 @@ module _ {A : Type 0} (grow : A → List Sign → A) where
       reached through (cells_of ds) b) →
       (let after = set cells 0 r.cell in
       pushed grow (stages_of stages) (cells_of cells) a row ≡ reached through (cells_of (put_mid 1 (length after - 1) after ds)) b)
-  unfolding pushed map
+  unfolding pushed
   table_gives [] cells ds d e a b row x o y r l es through h le s n he ho hy k = absurd (h refl)
   table_gives (f ∷ stages) [] ds d e a b row x o y r l es through h le s n he ho hy k = absurd (omega arith)
   table_gives (f ∷ stages) (c ∷ cells) ds d e a b row x o y r l es through h le s n he ho hy k =

@@ -10,8 +10,8 @@ use Rattle.stream.specs.Fold.{before, joined}
 use Rattle.stream.specs.Resume.{answered}
 use Rattle.stream.proofs.Chain.{run_resumes}
 use Rattle.stream.proofs.Resume.{answered-upon}
-use Rattle.row_stream.specs.declared.answer.Answer.{Answer}
-use Rattle.row_stream.specs.declared.answer.Answer.TheVariants.{Yes, No, GivenUp}
+use Rattle.words.specs.declared.answer.Answer.{Answer}
+use Rattle.words.specs.declared.answer.Answer.TheVariants.{Yes, No, GivenUp}
 use Rattle.row_stream.specs.declared.tally.Tally.{Tally}
 use Rattle.row_stream.specs.Joined.{tree_of, before_of, join_of}
 use Rattle.row_stream.specs.Reached.{ended}

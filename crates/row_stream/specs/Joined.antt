@@ -1,8 +1,8 @@
 -- Answers joined, as the code holds them. Assumes nothing.
 use Rattle.std.specs.Prelude.{Bool, true, false, not}
 use Rattle.sign_table.specs.Tree.{Tree, Yes as YesTree, No as NoTree, GivenUp as GivenUpTree}
-use Rattle.row_stream.specs.declared.answer.Answer.{Answer}
-use Rattle.row_stream.specs.declared.answer.Answer.TheVariants.{Yes, No, GivenUp}
+use Rattle.words.specs.declared.answer.Answer.{Answer}
+use Rattle.words.specs.declared.answer.Answer.TheVariants.{Yes, No, GivenUp}
 
 abbrev pub tree_of : Answer → Tree
 tree_of Yes = YesTree

@@ -2,12 +2,7 @@
 ghost use Rattle.std.specs.Prelude.{◌≡◌};
 ghost use Rattle.row_stream.specs.Joined.{join_of, before_of, settled_of};
 
-#[derive(Clone, Copy)]
-pub enum Answer {
-    Yes,
-    No,
-    GivenUp,
-}
+use words::answer::Answer;
 
 // Before the first row; all: to "every".
 pub fn first_answer(all: bool) -> Answer

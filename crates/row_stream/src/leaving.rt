@@ -3,8 +3,6 @@ ghost use Rattle.std.specs.Prelude.{◌≡◌, []};
 ghost use Rattle.row_stream.specs.Known.{known_of};
 ghost use Rattle.row_stream.specs.Leaving.{entries_of, leaving_of, interval, entries_to_point, entries_to_end};
 
-use crate::looks::the_sign;
-use crate::signs::least;
 use field::sign::Sign;
 use stream::way::Way;
 
@@ -34,7 +32,7 @@ impl Leaving {
     pub fn view(&self) -> &[Entry]
         ensures { result.now ≡ entries_of self.now }
     {
-        &self.entries[0..least(self.count, 4)]
+        &self.entries[..self.count.min(4)]
     }
 }
 
@@ -49,7 +47,7 @@ pub fn until_point(way: Way, p: Option<Sign>, stays: bool) -> Option<Leaving>
     ensures { leaving_of result ≡ entries_to_point way (known_of p) stays }
 {
     let last = Entry {
-        sign: the_sign(p),
+        sign: p.unwrap_or(Sign::Zero),
         point: true,
     };
     match way {

@@ -1,9 +1,10 @@
 // A row of at most 63 signs.
-ghost use Rattle.std.specs.Prelude.{◌≡◌, ◌≤◌, min, length, take, drop};
+ghost use Rattle.std.specs.Prelude.{◌≡◌, ◌≤◌, length, take, drop};
 ghost use Rattle.row_stream.specs.Signs.{signs_of};
 
 use field::sign::Sign;
 
+// An array with a count: a row is copied into a table's cell, and no heap is used.
 #[derive(Clone, Copy)]
 pub struct Signs {
     pub signs: [Sign; 63],
@@ -14,14 +15,8 @@ impl Signs {
     pub fn view(&self) -> &[Sign]
         ensures { result.now ≡ signs_of self.now }
     {
-        &self.signs[0..least(self.count, 63)]
+        &self.signs[..self.count.min(63)]
     }
-}
-
-pub fn least(a: usize, b: usize) -> usize
-    ensures { result ≡ min a b }
-{
-    if a < b { a } else { b }
 }
 
 pub fn copied(row: &[Sign]) -> Signs
@@ -29,9 +24,7 @@ pub fn copied(row: &[Sign]) -> Signs
     ensures { signs_of result ≡ row.now }
 {
     let mut signs = [Sign::Zero; 63];
-    for i in 0..row.len() {
-        signs[i] = row[i];
-    }
+    signs[..row.len()].copy_from_slice(row);
     Signs {
         signs,
         count: row.len(),
@@ -41,11 +34,11 @@ pub fn copied(row: &[Sign]) -> Signs
 pub fn front(row: &[Sign], l: usize) -> &[Sign]
     ensures { result.now ≡ take l row.now }
 {
-    if l < row.len() { &row[0..l] } else { row }
+    row.get(..l).unwrap_or(row)
 }
 
 pub fn back(row: &[Sign], l: usize) -> &[Sign]
     ensures { result.now ≡ drop l row.now }
 {
-    if l < row.len() { &row[l..] } else { &row[0..0] }
+    row.get(l..).unwrap_or(&[])
 }

@@ -4,16 +4,17 @@ ghost use Rattle.field.specs.declared.sign.Sign.{Sign as RowSign};
 ghost use Rattle.stream.specs.Chain.{run as chain_run};
 ghost use Rattle.stream.specs.Fold.{before as before_rows, joined};
 ghost use Rattle.stream.specs.Resume.{answered};
-ghost use Rattle.row_stream.specs.declared.answer.Answer.{Answer as RowAnswer};
+ghost use Rattle.words.specs.declared.answer.Answer.{Answer as RowAnswer};
 ghost use Rattle.row_stream.specs.Filling.{stages_of};
 ghost use Rattle.row_stream.specs.Joined.{join_of, tree_of};
 
-use crate::answer::{Answer, first_answer, is_settled, join};
+use crate::answer::{first_answer, is_settled, join};
 use crate::cell::Cell;
 use crate::chain::run;
 use crate::sink::Sink;
 use crate::stage::Stage;
 use field::sign::Sign;
+use words::answer::Answer;
 
 // What is answered in a row.
 pub trait Judge {

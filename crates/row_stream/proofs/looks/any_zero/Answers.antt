@@ -1,12 +1,9 @@
--- A zero is found at its place, or none is left.
+-- The same recursion as that of the library.
+use Rattle.std.proofs.Common.{◌∙◌, ap}
+use mathlib.Core.Path.{fun_ext}
+use Rattle.std.specs.List.{list_any}
+use Rattle.row_stream.proofs.Places.{any_zero_is, is_zero_test}
 use Rattle.row_stream.proofs.looks.any_zero.Goals as goal
-use Rattle.row_stream.proofs.Places.{zero_found, zero_past, zero_none}
-
-pub returns-then-is_zero : goal.returns-then-is_zero
-returns-then-is_zero c = zero_found c.args.signs.now c.loop-s.s-index _ c.loop-s-test.true c.if-is_zero.ensures c.loop-s.invariant
-
-pub loop-s-preserved : goal.loop-s-preserved
-loop-s-preserved c = zero_past c.args.signs.now c.loop-s.s-index _ c.loop-s-test.true c.if-is_zero.ensures c.loop-s.invariant
 
 pub returns : goal.returns
-returns c = zero_none c.args.signs.now c.loop-s.s-index c.loop-s-test.false c.loop-s.invariant
+returns c = c.contains.ensures.value ∙ ap (λ t. list_any t c.args.signs.now) (fun_ext is_zero_test) ∙ any_zero_is c.args.signs.now

@@ -1,17 +1,18 @@
 -- One more slot is filled, and in the end all.
-use Rattle.std.proofs.Common.{◌≡◌, min, length, take, ap, ◌∙◌, arith, length-set}
+use Rattle.std.proofs.Common.{◌≡◌, min, length, get_or, take, ap, ◌∙◌, arith, length-set, None}
 use Rattle.sign_table.specs.Deduce.{insert_at}
-use Rattle.row_stream.proofs.Fill.{filled-step, filled-whole}
+use Rattle.row_stream.proofs.Fill.{opens, opens_is, opens-le-one, filled-step, filled-whole}
 use Rattle.row_stream.proofs.stage.filled.Goals as goal
 
 pub loop-i-preserved : goal.loop-i-preserved
-loop-i-preserved c = (
-  length-set c.loop-i.signs c.loop-i.i c.slot_sign.result ∙ c.loop-i.invariant.0,
-  omega arith,
-  filled-step c.args.plan.now (insert_at c.args.place c.args.s c.args.others.now) c.loop-i.signs c.loop-i.i c.loop-i.open _
-      c.inserted_at.result c.slot_sign.result c.opens_of-open.result c.loop-i-test.true (omega arith) c.loop-i.invariant.2
-      c.inserted_at.ensures c.slot_sign.ensures c.opens_of-open.ensures.0,
-)
+loop-i-preserved c =
+    let taken : c.from-open.result ≡ opens (get_or c.args.plan.now c.loop-i.i None) = c.from-open.ensures ∙ opens_is _ c.is_none.result c.is_none.ensures in (
+      length-set c.loop-i.signs c.loop-i.i c.unwrap_or.result ∙ c.loop-i.invariant.0,
+      omega (arith, taken, opens-le-one (get_or c.args.plan.now c.loop-i.i None)),
+      filled-step c.args.plan.now (insert_at c.args.place c.args.s c.args.others.now) c.loop-i.signs c.loop-i.i c.loop-i.open _
+          c.inserted_at.result c.unwrap_or.result c.from-open.result c.loop-i-test.true (omega arith) c.loop-i.invariant.2
+          c.inserted_at.ensures c.unwrap_or.ensures taken,
+    )
 
 pub returns : goal.returns
 returns c =
