@@ -1,5 +1,5 @@
 -- The answer that a sink keeps, row after row, is the answer over all the rows. Assumes nothing.
-use Rattle.std.proofs.Common.{◌≡◌, Bool, true, false, List, [], ◌∷◌, sym, refl, ap, ◌∙◌}
+use Rattle.std.proofs.Common.{◌≡◌, Bool, true, false, List, [], ◌∷◌, Result, sym, refl, ap, ◌∙◌}
 use mathlib.Core.Path.{fun_ext}
 use mathlib.Core.List.{foldl}
 use Rattle.field.specs.declared.sign.Sign.{Sign}
@@ -12,6 +12,7 @@ use Rattle.stream.proofs.Chain.{run_resumes}
 use Rattle.stream.proofs.Resume.{answered-upon}
 use Rattle.words.specs.declared.answer.Answer.{Answer}
 use Rattle.words.specs.declared.answer.Answer.TheVariants.{Yes, No, GivenUp}
+use Rattle.row_stream.specs.declared.leaving.Gap.{Gap as RowGap}
 use Rattle.row_stream.specs.declared.tally.Tally.{Tally}
 use Rattle.row_stream.specs.Joined.{tree_of, before_of, join_of}
 use Rattle.row_stream.specs.Reached.{ended}
@@ -51,7 +52,7 @@ module _ {J : Type 0} (says : J → List Sign → Answer) where
       tally_fold (tallied t row) rows
       ∙ ap (λ a. foldl (λ u s. joined t.all u (tree_of (says t.judge s))) a rows) (join_tree t.all t.answer (says t.judge row))
 
-  pub tally_run : (judge : J) (all : Bool) (first : Answer) (fs : List TableStage) (row : List Sign) (through : Bool) (last : Tally J) → first ≡ before_of all →
+  pub tally_run : (judge : J) (all : Bool) (first : Answer) (fs : List TableStage) (row : List Sign) (through : Result Unit RowGap) (last : Tally J) → first ≡ before_of all →
       ended through last ≡ upon (outermost_rows fs (row ∷ [])) (λ rows. Went (foldl tallied (record { judge = judge; all = all; answer = first }) rows)) →
       answered (λ t. tree_of t.answer) (ended through last) ≡ answered (λ u. u) (run (λ a s. joined all a (tree_of (says judge s))) fs (before all) row)
   tally_run judge all first fs row through last h e =

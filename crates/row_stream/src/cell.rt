@@ -9,17 +9,18 @@ use crate::signs::Signs;
 use field::sign::Sign;
 
 // What lies left of an interval: no point that stays, or one, with p's sign there.
-#[derive(Clone, Copy)]
+// An enum of its own, since an Option of an Option wouldn't say which None is which.
+#[derive(Clone, Copy, PartialEq, Eq, Debug)]
 pub enum Side {
     Far,
     After(Option<Sign>),
 }
 
-// Only the side; or the others' signs on the last interval too.
+// What lies left of the last interval, and the others' signs on it while its point is still to come.
 #[derive(Clone, Copy)]
-pub enum Cell {
-    Clear(Side),
-    Held(Side, Signs),
+pub struct Cell {
+    pub side: Side,
+    pub held: Option<Signs>,
 }
 
 // p's sign at the left end of an interval.

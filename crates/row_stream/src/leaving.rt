@@ -1,18 +1,26 @@
 // The rows that leave a table at once, at most four, each by p's sign and where it is.
-ghost use Rattle.std.specs.Prelude.{◌≡◌, []};
+ghost use Rattle.std.specs.Prelude.{◌≡◌, ◌≤◌, [], ◌∷◌, length};
+ghost use Rattle.field.specs.declared.sign.Sign.TheVariants.{Zero};
+ghost use Rattle.field.specs.Sign.{flip};
+ghost use Rattle.row_stream.specs.declared.leaving.Entry.TheVariants.{Interval};
 ghost use Rattle.row_stream.specs.Known.{known_of};
-ghost use Rattle.row_stream.specs.Leaving.{entries_of, leaving_of, interval, entries_to_point, entries_to_end};
+ghost use Rattle.row_stream.specs.Leaving.{entries_of, leaving_of, entries_to_point, entries_to_end};
 
 use field::sign::Sign;
 use stream::way::Way;
 
-// Whether it is the row of the point, or one of the interval before it.
-#[derive(Clone, Copy)]
-pub struct Entry {
-    pub sign: Sign,
-    pub point: bool,
+// p's sign on an interval, or at the point after it.
+#[derive(Clone, Copy, PartialEq, Eq, Debug)]
+pub enum Entry {
+    Interval(Sign),
+    Point(Sign),
 }
 
+// p's sign isn't known in a row that stays.
+#[derive(Clone, Copy, PartialEq, Eq, Debug)]
+pub struct Gap;
+
+// An array with a count, since no heap is used.
 #[derive(Clone, Copy)]
 pub struct Leaving {
     pub entries: [Entry; 4],
@@ -20,13 +28,22 @@ pub struct Leaving {
 }
 
 impl Leaving {
+    fn of(leaving: &[Entry]) -> Leaving
+        requires { length leaving.now ≤ 4 }
+        ensures { entries_of result ≡ leaving.now }
+    {
+        let mut entries = [Entry::Interval(Sign::Zero); 4];
+        entries[..leaving.len()].copy_from_slice(leaving);
+        Leaving {
+            entries,
+            count: leaving.len(),
+        }
+    }
+
     pub fn nothing() -> Leaving
         ensures { entries_of result ≡ [] }
     {
-        Leaving {
-            entries: [on_interval(Sign::Zero); 4],
-            count: 0,
-        }
+        Leaving::of(&[])
     }
 
     pub fn view(&self) -> &[Entry]
@@ -36,70 +53,44 @@ impl Leaving {
     }
 }
 
-fn on_interval(sign: Sign) -> Entry
-    ensures { result ≡ interval sign }
+// An interval on which p goes from this sign through a root to the opposite one.
+fn crossing(s: Sign) -> [Entry; 3]
+    ensures { result ≡ Interval s ∷ Interval Zero ∷ Interval (flip s) ∷ [] }
 {
-    Entry { sign, point: false }
+    [
+        Entry::Interval(s),
+        Entry::Interval(Sign::Zero),
+        Entry::Interval(s.flipped()),
+    ]
 }
 
-// What leaves when a point comes; nothing where there is a gap.
-pub fn until_point(way: Way, p: Option<Sign>, stays: bool) -> Option<Leaving>
+// What leaves when a point comes.
+pub fn until_point(way: Way, p: Option<Sign>, stays: bool) -> Result<Leaving, Gap>
     ensures { leaving_of result ≡ entries_to_point way (known_of p) stays }
 {
-    let last = Entry {
-        sign: p.unwrap_or(Sign::Zero),
-        point: true,
-    };
+    let point = Entry::Point(p.unwrap_or(Sign::Zero));
     match way {
-        Way::Stays(s) => {
-            let only = on_interval(s);
-            Some(Leaving {
-                entries: [only, last, last, last],
-                count: if stays { 2 } else { 0 },
-            })
-        }
+        Way::Stays(s) if stays => Ok(Leaving::of(&[Entry::Interval(s), point])),
         Way::Crosses(s) => {
-            let before = on_interval(s);
-            let root = on_interval(Sign::Zero);
-            let behind = on_interval(s.flipped());
-            Some(Leaving {
-                entries: [before, root, behind, last],
-                count: if stays { 4 } else { 2 },
+            let [before, root, behind] = crossing(s);
+            Ok(if stays {
+                Leaving::of(&[before, root, behind, point])
+            } else {
+                Leaving::of(&[before, root])
             })
         }
-        Way::Lost => {
-            if stays {
-                return None;
-            }
-            Some(Leaving {
-                entries: [last, last, last, last],
-                count: 0,
-            })
-        }
+        Way::Lost if stays => Err(Gap),
+        Way::Stays(_) | Way::Lost => Ok(Leaving::nothing()),
     }
 }
 
 // What leaves at the end.
-pub fn until_end(way: Way) -> Option<Leaving>
+pub fn until_end(way: Way) -> Result<Leaving, Gap>
     ensures { leaving_of result ≡ entries_to_end way }
 {
     match way {
-        Way::Stays(s) => {
-            let only = on_interval(s);
-            Some(Leaving {
-                entries: [only, only, only, only],
-                count: 1,
-            })
-        }
-        Way::Crosses(s) => {
-            let before = on_interval(s);
-            let root = on_interval(Sign::Zero);
-            let behind = on_interval(s.flipped());
-            Some(Leaving {
-                entries: [before, root, behind, behind],
-                count: 3,
-            })
-        }
-        Way::Lost => None,
+        Way::Stays(s) => Ok(Leaving::of(&[Entry::Interval(s)])),
+        Way::Crosses(s) => Ok(Leaving::of(&crossing(s))),
+        Way::Lost => Err(Gap),
     }
 }

@@ -11,6 +11,7 @@ ghost use Rattle.row_stream.specs.Joined.{join_of, tree_of};
 use crate::answer::{first_answer, is_settled, join};
 use crate::cell::Cell;
 use crate::chain::run;
+use crate::leaving::Gap;
 use crate::sink::Sink;
 use crate::stage::Stage;
 use field::sign::Sign;
@@ -60,8 +61,8 @@ pub fn over_rows<J: Judge + Drop>(
         all,
         answer: first_answer(all),
     };
-    if run(stages, cells, &mut tally, row) {
-        return tally.answer;
+    match run(stages, cells, &mut tally, row) {
+        Ok(()) => tally.answer,
+        Err(Gap) => Answer::GivenUp,
     }
-    Answer::GivenUp
 }

@@ -1,26 +1,24 @@
--- Each close is a step of the chain's definition.
-use Rattle.std.proofs.Common.{◌-◌, length, take, drop, sym, refl, ap, ◌∙◌, arith}
+-- The last rows of the first table are pushed into the others, which then close.
+use Rattle.std.proofs.Common.{sym, ap, ◌∙◌, arith}
+use Rattle.stream.specs.Stage.{upon}
 use Rattle.stream.specs.Chain.{closed}
+use Rattle.row_stream.specs.Signs.{signs_of}
 use Rattle.row_stream.specs.Filling.{stages_of}
 use Rattle.row_stream.specs.Cells.{cells_of}
-use Rattle.row_stream.proofs.Closing.{no_table_closed, end_gap, end_given, rest_put}
+use Rattle.row_stream.specs.Taken.{leaving_rows}
+use Rattle.row_stream.specs.Reached.{reached}
+use Rattle.row_stream.proofs.Links.{rest, rest_put, ended_err, end_given}
 use Rattle.row_stream.proofs.chain.+close.Goals as goal
 
-pub returns-then-stages-eq0 : goal.returns-then-stages-eq0
-returns-then-stages-eq0 g t c = no_table_closed g.S.Sink.grown c.args.stages.now (cells_of c.args.cells.now) c.args.sink.now c.if-stages-eq0.true
+pub returns-in_err-give : goal.returns-in_err-give
+returns-in_err-give g t c =
+    end_given g.S.Sink.grown c.args.stages.now c.args.cells.now _ _ c.args.sink.now (λ F. leaving_rows F (signs_of c.in_ok-taken.taken.held) c.in_ok-taken.taken) _ c.in-len1-up.len_at_least c.requires c.in_ok-taken.ensures (rw c.view.ensures at c.give.ensures)
+    ∙ ap (λ r. upon (reached r (cells_of c.give.new.cells) c.give.new.sink) (λ s. closed g.S.Sink.grown (stages_of (rest c.args.stages.now)) s.cells s.sink)) c.in_err-give.was
+    ∙ sym (ended_err c.from_residual-in_err-give.result c.give.new.sink c.from_residual-in_err-give.ensures.0)
 
-pub returns-in-None : goal.returns-in-None
-returns-in-None g t c =
-    end_gap g.S.Sink.grown c.args.stages.now c.args.cells.now _ c.args.sink.now c.take_end-taken.result c.if-stages-eq0.false c.requires c.take_end-taken.ensures c.in-None.is
-
-pub returns-then-not-give : goal.returns-then-not-give
-returns-then-not-give g t c =
-    end_given g.S.Sink.grown c.args.stages.now c.args.cells.now _ _ c.args.sink.now c.take_end-taken.result c.in-Some.leaving c.view.result.now c.view-o.result.now _ _
-    c.if-stages-eq0.false c.requires c.take_end-taken.ensures c.in-Some.is c.view.ensures c.view-o.ensures c.if-not-give.ensures refl
-
-pub returns-else-not-give : goal.returns-else-not-give
-returns-else-not-give g t c =
-    end_given g.S.Sink.grown c.args.stages.now c.args.cells.now _ _ c.args.sink.now c.take_end-taken.result c.in-Some.leaving c.view.result.now c.view-o.result.now _ _
-    c.if-stages-eq0.false c.requires c.take_end-taken.ensures c.in-Some.is c.view.ensures c.view-o.ensures c.if-not-give.ensures
-    (ap (λ ds. closed g.S.Sink.grown (stages_of (take (length c.args.stages.now - 1) (drop 1 c.args.stages.now))) (cells_of ds) c.give.new.sink) (sym (rest_put c.args.cells.now c.give.new.cells (omega arith)))
-    ∙ c.close.ensures)
+pub returns : goal.returns
+returns g t c =
+    end_given g.S.Sink.grown c.args.stages.now c.args.cells.now _ _ c.args.sink.now (λ F. leaving_rows F (signs_of c.in_ok-taken.taken.held) c.in_ok-taken.taken) _ c.in-len1-up.len_at_least c.requires c.in_ok-taken.ensures (rw c.view.ensures at c.give.ensures)
+    ∙ ap (λ r. upon (reached r (cells_of c.give.new.cells) c.give.new.sink) (λ s. closed g.S.Sink.grown (stages_of (rest c.args.stages.now)) s.cells s.sink)) c.in_ok-give.was
+    ∙ ap (λ cs. closed g.S.Sink.grown (stages_of (rest c.args.stages.now)) (cells_of cs) c.give.new.sink) (sym (rest_put c.args.cells.now c.give.new.cells (omega arith)))
+    ∙ c.close.ensures
