@@ -1,7 +1,10 @@
 -- The first zero among the signs of a row. Assumes nothing.
-use Rattle.std.proofs.Common.{◌≡◌, ℕ, suc, ◌+◌, ltb, arith, ap₂, length, Bool, true, false, cond, ◌||◌, List, [], ◌∷◌, Option, Some, None, refl, ap, ◌∙◌, slice_get}
+use Rattle.std.proofs.Common.{◌≡◌, ℕ, suc, ◌+◌, ltb, arith, ap₂, length, Bool, true, false, cond, ◌||◌, List, [], ◌∷◌, Option, Some, None, refl, sym, ap, ◌∙◌, slice_get}
 use Rattle.std.specs.List.{list_any, position, position_or_len}
-use Rattle.std.specs.Option.{option_and_then}
+use Rattle.std.specs.Option.{option_and_then, option_copied}
+use Rattle.std.specs.Slice.{IsItemAt}
+use Rattle.std.proofs.lemmas.Option.{slice_get_past, slice_get_read}
+use denote.Ref.{Bor}
 use Rattle.std.proofs.lemmas.Bool.Decides.{nat_tests}
 use denote.Enum.Bare.{sameb}
 use Rattle.field.specs.contracts.sign.Sign.{the_type}
@@ -48,3 +51,8 @@ root_at_first (x ∷ xs) [] = ap known_of (none_there (position is_zero_sign (x 
 root_at_first (Zero ∷ xs) (r ∷ rs) = ap known_of (at_once r rs (length xs))
 root_at_first (Neg ∷ xs) (r ∷ rs) = ap known_of (one_place_later r rs (position_or_len is_zero_sign xs) (length xs)) ∙ root_at_first xs rs
 root_at_first (Pos ∷ xs) (r ∷ rs) = ap known_of (one_place_later r rs (position_or_len is_zero_sign xs) (length xs)) ∙ root_at_first xs rs
+
+-- what `get` gives, copied
+pub copied_get : (rs : List Sign) (i : ℕ) (r : Option (Bor Sign)) → IsItemAt rs i r → option_copied r ≡ slice_get rs i
+copied_get rs i None h = sym (slice_get_past rs i h.3)
+copied_get rs i (Some x) h = sym (slice_get_read rs (length rs) i x.now refl h.3.0 h.1)

@@ -1,13 +1,11 @@
 -- The library's place is that of the first zero.
-use Rattle.std.proofs.Common.{◌≡◌, sym, ap, ◌∙◌, rules, slice_get, tests, arith}
-use Rattle.std.proofs.lemmas.Grind.{common_steps}
-use Rattle.std.proofs.lemmas.Option.{gets}
+use Rattle.std.proofs.Common.{◌≡◌, sym, ap, ◌∙◌, rules, slice_get, tests}
 use Rattle.std.specs.List.{position}
 use Rattle.std.proofs.lemmas.Iterator.{YieldsList-from_slice}
 use Rattle.std.proofs.lemmas.Iterator.Search.{position_from_yields_List}
 use Rattle.sign_table.specs.Deduce.{is_zero_sign}
 use Rattle.row_stream.specs.Known.{known_of}
-use Rattle.row_stream.proofs.Places.{remainder_at, root_at_first}
+use Rattle.row_stream.proofs.Places.{copied_get, remainder_at, root_at_first}
 use Rattle.row_stream.proofs.looks.at_root.Goals as goal
 
 pub returns-in_err-zero : goal.returns-in_err-zero
@@ -22,5 +20,5 @@ returns c =
     let e : c.position.result ≡ position is_zero_sign c.args.signs.now =
     position_from_yields_List is_zero_sign _ _ c.position.result c.position.ensures.ran (YieldsList-from_slice c.args.signs.now cc) (λ x b q k. search (rules, tests))
     in
-    let g : c.copied.result ≡ slice_get c.args.remainders.now c.in_ok-zero.zero = c.copied.ensures ∙ (let h = c.get.ensures.lookup in grind (arith, common_steps, gets)) in
+    let g : c.copied.result ≡ slice_get c.args.remainders.now c.in_ok-zero.zero = c.copied.ensures ∙ copied_get c.args.remainders.now c.in_ok-zero.zero c.get.result c.get.ensures.lookup in
     ap known_of g ∙ ap (λ i. known_of (remainder_at c.args.remainders.now i)) (sym c.in_ok-zero.was ∙ e) ∙ root_at_first c.args.signs.now c.args.remainders.now
