@@ -3,6 +3,7 @@ ghost use Rattle.std.specs.Prelude.{◌≡◌, ◌≤◌, [], ◌∷◌, length}
 ghost use mathlib.Core.List.{foldl};
 ghost use Rattle.stream.specs.Stage.{Went, upon, outermost_rows};
 ghost use Rattle.stream.specs.Chain.{pushed, pushed_all, closed};
+ghost use Rattle.row_stream.specs.Signs.{signs_of};
 ghost use Rattle.row_stream.specs.Filling.{stage_of, stages_of};
 ghost use Rattle.row_stream.specs.Cells.{cells_of};
 ghost use Rattle.row_stream.specs.Taken.{leaving_rows};
@@ -10,7 +11,7 @@ ghost use Rattle.row_stream.specs.Reached.{reached, ended};
 
 use crate::cell::{Cell, Side};
 use crate::leaving::Gap;
-use crate::signs::front;
+use crate::signs::{Signs, front};
 use crate::sink::Sink;
 use crate::stage::Stage;
 use crate::taken::{Taken, entry_row, take_end, take_row};
@@ -24,13 +25,13 @@ pub fn push<S: Sink>(
     stages: &[Stage],
     cells: &mut [Cell],
     sink: &mut S,
-    row: &[Sign],
+    row: &Signs,
 ) -> Result<(), Gap>
-    requires { (length row.now ≤ 63) × (length stages.now ≤ length cells.old) }
-    ensures { pushed S.Sink.grown (stages_of stages.now) (cells_of cells.old) sink.old row.now ≡ reached result (cells_of cells.new) sink.new }
+    requires { length stages.now ≤ length cells.old }
+    ensures { pushed S.Sink.grown (stages_of stages.now) (cells_of cells.old) sink.old (signs_of row.now) ≡ reached result (cells_of cells.new) sink.new }
 {
     let [stage, outer @ ..] = stages else {
-        sink.take(row);
+        sink.take(row.view());
         return Ok(());
     };
     let taken = take_row(stage, cells[0], row)?;
@@ -41,7 +42,7 @@ pub fn push<S: Sink>(
         &mut cells[1..],
         sink,
         &taken,
-        front(row, stage.divisors),
+        front(row.view(), stage.divisors),
     )
 }
 
@@ -61,7 +62,7 @@ fn give<S: Sink>(
 {
     for entry in taken.leaving.view() {
         let row = entry_row(stage, *entry, taken.held.view(), x);
-        push(stages, cells, sink, row.view())?;
+        push(stages, cells, sink, &row)?;
     }
     Ok(())
 }
@@ -92,10 +93,10 @@ pub fn run<S: Sink>(
     stages: &[Stage],
     cells: &mut [Cell],
     sink: &mut S,
-    row: &[Sign],
+    row: &Signs,
 ) -> Result<(), Gap>
-    requires { (length row.now ≤ 63) × (length stages.now ≡ length cells.old) }
-    ensures { ended result sink.new ≡ upon (outermost_rows (stages_of stages.now) (row.now ∷ [])) (λ rows. Went (foldl S.Sink.grown sink.old rows)) }
+    requires { length stages.now ≡ length cells.old }
+    ensures { ended result sink.new ≡ upon (outermost_rows (stages_of stages.now) (signs_of row.now ∷ [])) (λ rows. Went (foldl S.Sink.grown sink.old rows)) }
 {
     cells.fill(Cell {
         side: Side::Far,

@@ -52,10 +52,10 @@ fn point_taken(side: Side, held: Signs, p: Option<Sign>, x: &[Sign]) -> Result<T
 
 // The next row comes.
 #[tactic(auto, unfolding(stream::specs::Step::stepped))]
-pub fn take_row(stage: &Stage, cell: Cell, row: &[Sign]) -> Result<Taken, Gap>
-    requires { length row.now ≤ 63 }
-    ensures { stepped (stage_of stage.now) (cell_of cell) row.now ≡ taken_of (stage_of stage.now) (take stage.now.divisors row.now) result }
+pub fn take_row(stage: &Stage, cell: Cell, row: &Signs) -> Result<Taken, Gap>
+    ensures { stepped (stage_of stage.now) (cell_of cell) (signs_of row.now) ≡ taken_of (stage_of stage.now) (take stage.now.divisors (signs_of row.now)) result }
 {
+    let row = row.view();
     let x = front(row, stage.divisors);
     let Some(held) = cell.held else {
         let held = copied(x);

@@ -5,6 +5,7 @@ ghost use Rattle.stream.specs.Chain.{run as chain_run};
 ghost use Rattle.stream.specs.Fold.{before as before_rows, joined};
 ghost use Rattle.stream.specs.Resume.{answered};
 ghost use Rattle.words.specs.declared.answer.Answer.{Answer as RowAnswer};
+ghost use Rattle.row_stream.specs.Signs.{signs_of};
 ghost use Rattle.row_stream.specs.Filling.{stages_of};
 ghost use Rattle.row_stream.specs.Joined.{join_of, tree_of};
 
@@ -12,6 +13,7 @@ use crate::answer::{first_answer, is_settled, join};
 use crate::cell::Cell;
 use crate::chain::run;
 use crate::leaving::Gap;
+use crate::signs::Signs;
 use crate::sink::Sink;
 use crate::stage::Stage;
 use field::sign::Sign;
@@ -51,10 +53,10 @@ pub fn over_rows<J: Judge + Drop>(
     judge: J,
     stages: &[Stage],
     cells: &mut [Cell],
-    row: &[Sign],
+    row: &Signs,
 ) -> Answer
-    requires { (length row.now ≤ 63) × (length stages.now ≡ length cells.old) }
-    ensures { tree_of result ≡ answered (λ u. u) (chain_run (λ a s. joined all a (tree_of (J.Judge.says judge s))) (stages_of stages.now) (before_rows all) row.now) }
+    requires { length stages.now ≡ length cells.old }
+    ensures { tree_of result ≡ answered (λ u. u) (chain_run (λ a s. joined all a (tree_of (J.Judge.says judge s))) (stages_of stages.now) (before_rows all) (signs_of row.now)) }
 {
     let mut tally = Tally {
         judge,
