@@ -1,5 +1,5 @@
 -- How a plan is filled, place by place. Assumes nothing.
-use Rattle.std.specs.Prelude.{min, List, map, take, Option}
+use Rattle.std.specs.Prelude.{min, List, take, Option}
 use Rattle.field.specs.declared.sign.Sign.{Sign}
 use Rattle.stream.specs.Stage.{Stage as TableStage}
 use Rattle.row_stream.specs.declared.stage.Stage.{Stage}
@@ -9,6 +9,3 @@ plan_of f = take (min f.count 63) f.plan
 
 abbrev pub stage_of : Stage → TableStage
 stage_of f = record { plan = plan_of f; place = f.place; divisors = f.divisors }
-
-abbrev pub stages_of : List Stage → List TableStage
-stages_of fs = map stage_of fs

@@ -3,6 +3,7 @@ pub mod Known
 pub mod Signs
 pub mod Filling
 pub mod Cells
+pub mod Tables
 pub mod Leaving
 pub mod Taken
 pub mod Reached

@@ -1,11 +1,11 @@
 // A chain of tables, the innermost first: each takes the rows of the one before it, and a sink takes the last one's.
-ghost use Rattle.std.specs.Prelude.{◌≡◌, ◌≤◌, [], ◌∷◌, length};
+ghost use Rattle.std.specs.Prelude.{◌≡◌, [], ◌∷◌};
 ghost use mathlib.Core.List.{foldl};
 ghost use Rattle.stream.specs.Stage.{Went, upon, outermost_rows};
-ghost use Rattle.stream.specs.Chain.{pushed, pushed_all, closed};
+ghost use Rattle.stream.specs.Chain.{pushed, pushed_all, closed, fresh};
 ghost use Rattle.row_stream.specs.Signs.{signs_of};
-ghost use Rattle.row_stream.specs.Filling.{stage_of, stages_of};
-ghost use Rattle.row_stream.specs.Cells.{cells_of};
+ghost use Rattle.row_stream.specs.Filling.{stage_of};
+ghost use Rattle.row_stream.specs.Tables.{stages_of, cells_of};
 ghost use Rattle.row_stream.specs.Taken.{leaving_rows};
 ghost use Rattle.row_stream.specs.Reached.{reached, ended};
 
@@ -17,33 +17,28 @@ use crate::stage::Stage;
 use crate::taken::{Taken, entry_row, take_end, take_row};
 use field::sign::Sign;
 
+// What a table makes its rows by, and what it keeps between two of them.
+#[derive(Clone, Copy)]
+pub struct Table {
+    pub stage: Stage,
+    pub cell: Cell,
+}
+
 // A row is pushed into the innermost table.
-// Tables and cells are two slices, since a caller shares the tables while the cells change.
 #[cycle(give_push)]
 #[tactic(auto, unfolding(stream::specs::Chain::pushed, stream::specs::Chain::pushed_all))]
-pub fn push<S: Sink>(
-    stages: &[Stage],
-    cells: &mut [Cell],
-    sink: &mut S,
-    row: &Signs,
-) -> Result<(), Gap>
-    requires { length stages.now ≤ length cells.old }
-    ensures { pushed S.Sink.grown (stages_of stages.now) (cells_of cells.old) sink.old (signs_of row.now) ≡ reached result (cells_of cells.new) sink.new }
+pub fn push<S: Sink>(tables: &mut [Table], sink: &mut S, row: &Signs) -> Result<(), Gap>
+    ensures stages { stages_of tables.new ≡ stages_of tables.old }
+    ensures rows { pushed S.Sink.grown (stages_of tables.old) (cells_of tables.old) sink.old (signs_of row.now) ≡ reached result (cells_of tables.new) sink.new }
 {
-    let [stage, outer @ ..] = stages else {
+    let Some((table, outer)) = tables.split_first_mut() else {
         sink.take(row.view());
         return Ok(());
     };
-    let taken = take_row(stage, cells[0], row)?;
-    cells[0] = taken.cell;
-    give(
-        stage,
-        outer,
-        &mut cells[1..],
-        sink,
-        &taken,
-        front(row.view(), stage.divisors),
-    )
+    let taken = take_row(&table.stage, table.cell, row)?;
+    table.cell = taken.cell;
+    let x = front(row.view(), table.stage.divisors);
+    give(&table.stage, outer, sink, &taken, x)
 }
 
 // The rows that leave a table are pushed into the next one.
@@ -51,57 +46,54 @@ pub fn push<S: Sink>(
 #[tactic(auto, unfolding(stream::specs::Chain::pushed, stream::specs::Chain::pushed_all))]
 fn give<S: Sink>(
     stage: &Stage,
-    stages: &[Stage],
-    cells: &mut [Cell],
+    tables: &mut [Table],
     sink: &mut S,
     taken: &Taken,
     x: &[Sign],
 ) -> Result<(), Gap>
-    requires { length stages.now ≤ length cells.old }
-    ensures { pushed_all (pushed S.Sink.grown (stages_of stages.now)) (cells_of cells.old) sink.old (leaving_rows (stage_of stage.now) x.now taken.now) ≡ reached result (cells_of cells.new) sink.new }
+    ensures stages { stages_of tables.new ≡ stages_of tables.old }
+    ensures rows { pushed_all (pushed S.Sink.grown (stages_of tables.old)) (cells_of tables.old) sink.old (leaving_rows (stage_of stage.now) x.now taken.now) ≡ reached result (cells_of tables.new) sink.new }
 {
     for entry in taken.leaving.view() {
         let row = entry_row(stage, *entry, taken.held.view(), x);
-        push(stages, cells, sink, &row)?;
+        push(tables, sink, &row)?;
     }
     Ok(())
 }
 
 // No more rows come: the tables close, the innermost first.
 #[tactic(auto, unfolding(stream::specs::Chain::closed))]
-pub fn close<S: Sink>(stages: &[Stage], cells: &mut [Cell], sink: &mut S) -> Result<(), Gap>
-    requires { length stages.now ≤ length cells.old }
-    ensures { closed S.Sink.grown (stages_of stages.now) (cells_of cells.old) sink.old ≡ ended result sink.new }
+pub fn close<S: Sink>(tables: &mut [Table], sink: &mut S) -> Result<(), Gap>
+    ensures stages { stages_of tables.new ≡ stages_of tables.old }
+    ensures rows { closed S.Sink.grown (stages_of tables.old) (cells_of tables.old) sink.old ≡ ended result sink.new }
 {
-    let [stage, outer @ ..] = stages else {
+    let Some((table, outer)) = tables.split_first_mut() else {
         return Ok(());
     };
-    let taken = take_end(cells[0])?;
-    give(
-        stage,
-        outer,
-        &mut cells[1..],
-        sink,
-        &taken,
-        taken.held.view(),
-    )?;
-    close(outer, &mut cells[1..], sink)
+    let taken = take_end(table.cell)?;
+    give(&table.stage, outer, sink, &taken, taken.held.view())?;
+    close(outer, sink)
+}
+
+// Nothing is kept.
+fn clear(tables: &mut [Table])
+    ensures stages { stages_of tables.new ≡ stages_of tables.old }
+    ensures cells { cells_of tables.new ≡ fresh (stages_of tables.old) }
+{
+    for table in tables.iter_mut() {
+        table.cell = Cell {
+            side: Side::Far,
+            held: None,
+        };
+    }
 }
 
 // A table of one row alone, run through all of these: the sink takes the rows of the outermost table, unless there is a gap.
-pub fn run<S: Sink>(
-    stages: &[Stage],
-    cells: &mut [Cell],
-    sink: &mut S,
-    row: &Signs,
-) -> Result<(), Gap>
-    requires { length stages.now ≡ length cells.old }
-    ensures { ended result sink.new ≡ upon (outermost_rows (stages_of stages.now) (signs_of row.now ∷ [])) (λ rows. Went (foldl S.Sink.grown sink.old rows)) }
+pub fn run<S: Sink>(tables: &mut [Table], sink: &mut S, row: &Signs) -> Result<(), Gap>
+    ensures stages { stages_of tables.new ≡ stages_of tables.old }
+    ensures rows { ended result sink.new ≡ upon (outermost_rows (stages_of tables.old) (signs_of row.now ∷ [])) (λ rows. Went (foldl S.Sink.grown sink.old rows)) }
 {
-    cells.fill(Cell {
-        side: Side::Far,
-        held: None,
-    });
-    push(stages, cells, sink, row)?;
-    close(stages, cells, sink)
+    clear(tables);
+    push(tables, sink, row)?;
+    close(tables, sink)
 }

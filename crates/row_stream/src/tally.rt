@@ -6,16 +6,14 @@ ghost use Rattle.stream.specs.Fold.{before as before_rows, joined};
 ghost use Rattle.stream.specs.Resume.{answered};
 ghost use Rattle.words.specs.declared.answer.Answer.{Answer as RowAnswer};
 ghost use Rattle.row_stream.specs.Signs.{signs_of};
-ghost use Rattle.row_stream.specs.Filling.{stages_of};
+ghost use Rattle.row_stream.specs.Tables.{stages_of};
 ghost use Rattle.row_stream.specs.Joined.{join_of, tree_of};
 
 use crate::answer::{first_answer, is_settled, join};
-use crate::cell::Cell;
-use crate::chain::run;
+use crate::chain::{Table, run};
 use crate::leaving::Gap;
 use crate::signs::Signs;
 use crate::sink::Sink;
-use crate::stage::Stage;
 use field::sign::Sign;
 use words::answer::Answer;
 
@@ -48,22 +46,16 @@ impl<J: Judge> Sink for Tally<J> {
 }
 
 // The answer over the rows that a table of one row alone gives through all of these; it is given up where there is a gap.
-pub fn over_rows<J: Judge + Drop>(
-    all: bool,
-    judge: J,
-    stages: &[Stage],
-    cells: &mut [Cell],
-    row: &Signs,
-) -> Answer
-    requires { length stages.now ≡ length cells.old }
-    ensures { tree_of result ≡ answered (λ u. u) (chain_run (λ a s. joined all a (tree_of (J.Judge.says judge s))) (stages_of stages.now) (before_rows all) (signs_of row.now)) }
+pub fn over_rows<J: Judge + Drop>(all: bool, judge: J, tables: &mut [Table], row: &Signs) -> Answer
+    ensures stages { stages_of tables.new ≡ stages_of tables.old }
+    ensures rows { tree_of result ≡ answered (λ u. u) (chain_run (λ a s. joined all a (tree_of (J.Judge.says judge s))) (stages_of tables.old) (before_rows all) (signs_of row.now)) }
 {
     let mut tally = Tally {
         judge,
         all,
         answer: first_answer(all),
     };
-    match run(stages, cells, &mut tally, row) {
+    match run(tables, &mut tally, row) {
         Ok(()) => tally.answer,
         Err(Gap) => Answer::GivenUp,
     }

@@ -1,24 +1,21 @@
 -- The last rows of the first table are pushed into the others, which then close.
-use Rattle.std.proofs.Common.{sym, ap, ◌∙◌, arith}
+use Rattle.std.proofs.Common.{sym, ap, ◌∙◌}
 use Rattle.stream.specs.Stage.{upon}
 use Rattle.stream.specs.Chain.{closed}
-use Rattle.row_stream.specs.Signs.{signs_of}
-use Rattle.row_stream.specs.Filling.{stages_of}
-use Rattle.row_stream.specs.Cells.{cells_of}
-use Rattle.row_stream.specs.Taken.{leaving_rows}
+use Rattle.row_stream.specs.Filling.{stage_of}
+use Rattle.row_stream.specs.Cells.{cell_of}
+use Rattle.row_stream.specs.Tables.{stages_of, cells_of}
 use Rattle.row_stream.specs.Reached.{reached}
-use Rattle.row_stream.proofs.Links.{rest, rest_put, ended_err, end_given}
+use Rattle.row_stream.proofs.Links.{end_given}
 use Rattle.row_stream.proofs.chain.+close.Goals as goal
 
-pub returns-in_err-give : goal.returns-in_err-give
-returns-in_err-give g t c =
-    end_given g.S.Sink.grown c.args.stages.now c.args.cells.now _ _ c.args.sink.now (λ F. leaving_rows F (signs_of c.in_ok-taken.taken.held) c.in_ok-taken.taken) _ c.in-len1-up.len_at_least c.requires c.in_ok-taken.ensures (rw c.view.ensures at c.give.ensures)
-    ∙ ap (λ r. upon (reached r (cells_of c.give.new.cells) c.give.new.sink) (λ s. closed g.S.Sink.grown (stages_of (rest c.args.stages.now)) s.cells s.sink)) c.in_err-give.was
-    ∙ sym (ended_err c.from_residual-in_err-give.result c.give.new.sink c.from_residual-in_err-give.ensures.0)
-
-pub returns : goal.returns
-returns g t c =
-    end_given g.S.Sink.grown c.args.stages.now c.args.cells.now _ _ c.args.sink.now (λ F. leaving_rows F (signs_of c.in_ok-taken.taken.held) c.in_ok-taken.taken) _ c.in-len1-up.len_at_least c.requires c.in_ok-taken.ensures (rw c.view.ensures at c.give.ensures)
-    ∙ ap (λ r. upon (reached r (cells_of c.give.new.cells) c.give.new.sink) (λ s. closed g.S.Sink.grown (stages_of (rest c.args.stages.now)) s.cells s.sink)) c.in_ok-give.was
-    ∙ ap (λ cs. closed g.S.Sink.grown (stages_of (rest c.args.stages.now)) (cells_of cs) c.give.new.sink) (sym (rest_put c.args.cells.now c.give.new.cells (omega arith)))
-    ∙ c.close.ensures
+pub returns-clause-rows : goal.returns-clause-rows
+returns-clause-rows g t c =
+    let outer = stages_of c.in-Some.outer.now in
+    let kept = cells_of c.give.new.tables in
+    ap (λ ts. closed g.S.Sink.grown (stages_of ts) (cells_of ts) c.args.sink.now) c.in-Some.ensures.cases.0
+    ∙ end_given g.S.Sink.grown (stage_of c.in-Some.table.now.stage) outer (cell_of c.in-Some.table.now.cell) (cells_of c.in-Some.outer.now) c.args.sink.now _ _
+    (c.in_ok-taken.ensures (stage_of c.in-Some.table.now.stage)) (rw c.view.ensures at c.give.ensures.rows)
+    ∙ ap (λ r. upon (reached r kept c.give.new.sink) (λ s. closed g.S.Sink.grown outer s.cells s.sink)) c.in_ok-give.was
+    ∙ ap (λ fs. closed g.S.Sink.grown fs kept c.give.new.sink) (sym c.give.ensures.stages)
+    ∙ c.close.ensures.rows
