@@ -4,7 +4,8 @@ use Rattle.stream.specs.Step.{Side as TableSide, Far as NonePoint, After as Afte
 use Rattle.row_stream.specs.declared.cell.Side.{Side}
 use Rattle.row_stream.specs.declared.cell.Side.TheVariants.{Far, After}
 use Rattle.row_stream.specs.declared.cell.Cell.{Cell}
-use Rattle.row_stream.specs.declared.signs.Signs.{Signs}
+use Rattle.field.specs.declared.sign.Sign.{Sign}
+use Rattle.row_stream.specs.declared.at_most.AtMost.{AtMost}
 use Rattle.row_stream.specs.Known.{known_of}
 use Rattle.row_stream.specs.Signs.{signs_of}
 
@@ -12,7 +13,7 @@ abbrev pub side_of : Side → TableSide
 side_of Far = NonePoint
 side_of (After p) = AfterPoint (known_of p)
 
-abbrev pub cell_with : TableSide → Option Signs → TableCell
+abbrev pub cell_with : TableSide → Option (AtMost Sign 63) → TableCell
 cell_with side None = OnlySide side
 cell_with side (Some o) = WithInterval side (signs_of o)
 

@@ -1,11 +1,12 @@
 -- How a plan is filled, place by place. Assumes nothing.
-use Rattle.std.specs.Prelude.{min, List, take, Option}
+use Rattle.std.specs.Prelude.{List, Option}
 use Rattle.field.specs.declared.sign.Sign.{Sign}
 use Rattle.stream.specs.Stage.{Stage as TableStage}
+use Rattle.row_stream.specs.AtMost.{values_of}
 use Rattle.row_stream.specs.declared.stage.Stage.{Stage}
 
 abbrev pub plan_of : Stage → List (Option Sign)
-plan_of f = take (min f.count 63) f.plan
+plan_of f = values_of f.plan
 
 abbrev pub stage_of : Stage → TableStage
 stage_of f = record { plan = plan_of f; place = f.place; divisors = f.divisors }

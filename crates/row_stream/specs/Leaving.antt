@@ -1,5 +1,5 @@
 -- The rows that leave a table at once, each by p's sign and where it is. Assumes nothing.
-use Rattle.std.specs.Prelude.{min, Bool, cond, List, [], ◌∷◌, map, take, Result, Ok, Err}
+use Rattle.std.specs.Prelude.{Bool, cond, List, [], ◌∷◌, map, Result, Ok, Err}
 use Rattle.field.specs.declared.sign.Sign.{Sign}
 use Rattle.field.specs.declared.sign.Sign.TheVariants.{Zero}
 use Rattle.field.specs.Sign.{flip}
@@ -12,12 +12,13 @@ use Rattle.stream.specs.Step.{handed_on}
 use Rattle.row_stream.specs.declared.leaving.Entry.{Entry}
 use Rattle.row_stream.specs.declared.leaving.Entry.TheVariants.{Interval, Point}
 use Rattle.row_stream.specs.declared.leaving.Gap.{Gap as RowGap}
-use Rattle.row_stream.specs.declared.leaving.Leaving.{Leaving}
+use Rattle.row_stream.specs.declared.at_most.AtMost.{AtMost}
+use Rattle.row_stream.specs.AtMost.{values_of}
 
-abbrev pub entries_of : Leaving → List Entry
-entries_of l = take (min l.count 4) l.entries
+abbrev pub entries_of : AtMost Entry 4 → List Entry
+entries_of l = values_of l
 
-abbrev pub leaving_of : Result Leaving RowGap → Outcome (List Entry)
+abbrev pub leaving_of : Result (AtMost Entry 4) RowGap → Outcome (List Entry)
 leaving_of (Err g) = Gap
 leaving_of (Ok l) = Went (entries_of l)
 

@@ -1,5 +1,6 @@
 -- What the code's values stand for.
 pub mod Known
+pub mod AtMost
 pub mod Signs
 pub mod Filling
 pub mod Cells

@@ -5,7 +5,7 @@ use Rattle.stream.specs.Stage.{Stage as TableStage, Outcome, Gap, Went}
 use Rattle.stream.specs.Step.{Stepped, point_taken, closing}
 use Rattle.row_stream.specs.declared.cell.Side.{Side}
 use Rattle.row_stream.specs.declared.cell.Cell.{Cell}
-use Rattle.row_stream.specs.declared.signs.Signs.{Signs}
+use Rattle.row_stream.specs.declared.at_most.AtMost.{AtMost}
 use Rattle.row_stream.specs.declared.taken.Taken.{Taken}
 use Rattle.row_stream.specs.declared.leaving.Gap.{Gap as RowGap}
 use Rattle.row_stream.specs.Known.{known_of}
@@ -21,7 +21,7 @@ abbrev pub taken_of : TableStage → List Sign → Result Taken RowGap → Outco
 taken_of f x (Err g) = Gap
 taken_of f x (Ok r) = Went (record { cell = cell_of r.cell; leaving = leaving_rows f x r })
 
-abbrev pub PointTakenAs : Side → Signs → Option Sign → List Sign → Result Taken RowGap → Type 0
+abbrev pub PointTakenAs : Side → AtMost Sign 63 → Option Sign → List Sign → Result Taken RowGap → Type 0
 PointTakenAs side held p x r = (f : TableStage) → point_taken true f (side_of side) (signs_of held) (known_of p) x ≡ taken_of f x r
 
 -- the rows at the end are all of intervals

@@ -6,6 +6,7 @@ ghost use Rattle.row_stream.specs.declared.leaving.Entry.TheVariants.{Interval};
 ghost use Rattle.row_stream.specs.Known.{known_of};
 ghost use Rattle.row_stream.specs.Leaving.{entries_of, leaving_of, entries_to_point, entries_to_end};
 
+use crate::at_most::AtMost;
 use field::sign::Sign;
 use stream::way::Way;
 
@@ -20,37 +21,19 @@ pub enum Entry {
 #[derive(Clone, Copy, PartialEq, Eq, Debug)]
 pub struct Gap;
 
-// An array with a count, since no heap is used.
-#[derive(Clone, Copy)]
-pub struct Leaving {
-    pub entries: [Entry; 4],
-    pub count: usize,
+pub type Leaving = AtMost<Entry, 4>;
+
+fn leaving(entries: &[Entry]) -> Leaving
+    requires { length entries.now ≤ 4 }
+    ensures { entries_of result ≡ entries.now }
+{
+    Leaving::copied(entries, Entry::Interval(Sign::Zero))
 }
 
-impl Leaving {
-    fn of(leaving: &[Entry]) -> Leaving
-        requires { length leaving.now ≤ 4 }
-        ensures { entries_of result ≡ leaving.now }
-    {
-        let mut entries = [Entry::Interval(Sign::Zero); 4];
-        entries[..leaving.len()].copy_from_slice(leaving);
-        Leaving {
-            entries,
-            count: leaving.len(),
-        }
-    }
-
-    pub fn nothing() -> Leaving
-        ensures { entries_of result ≡ [] }
-    {
-        Leaving::of(&[])
-    }
-
-    pub fn view(&self) -> &[Entry]
-        ensures { result.now ≡ entries_of self.now }
-    {
-        &self.entries[..self.count.min(4)]
-    }
+pub fn nothing() -> Leaving
+    ensures { entries_of result ≡ [] }
+{
+    leaving(&[])
 }
 
 // An interval on which p goes from this sign through a root to the opposite one.
@@ -70,17 +53,17 @@ pub fn until_point(way: Way, p: Option<Sign>, stays: bool) -> Result<Leaving, Ga
 {
     let point = Entry::Point(p.unwrap_or(Sign::Zero));
     match way {
-        Way::Stays(s) if stays => Ok(Leaving::of(&[Entry::Interval(s), point])),
+        Way::Stays(s) if stays => Ok(leaving(&[Entry::Interval(s), point])),
         Way::Crosses(s) => {
             let [before, root, behind] = crossing(s);
             Ok(if stays {
-                Leaving::of(&[before, root, behind, point])
+                leaving(&[before, root, behind, point])
             } else {
-                Leaving::of(&[before, root])
+                leaving(&[before, root])
             })
         }
         Way::Lost if stays => Err(Gap),
-        Way::Stays(_) | Way::Lost => Ok(Leaving::nothing()),
+        Way::Stays(_) | Way::Lost => Ok(nothing()),
     }
 }
 
@@ -89,8 +72,8 @@ pub fn until_end(way: Way) -> Result<Leaving, Gap>
     ensures { leaving_of result ≡ entries_to_end way }
 {
     match way {
-        Way::Stays(s) => Ok(Leaving::of(&[Entry::Interval(s)])),
-        Way::Crosses(s) => Ok(Leaving::of(&crossing(s))),
+        Way::Stays(s) => Ok(leaving(&[Entry::Interval(s)])),
+        Way::Crosses(s) => Ok(leaving(&crossing(s))),
         Way::Lost => Err(Gap),
     }
 }

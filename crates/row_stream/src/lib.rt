@@ -1,6 +1,7 @@
 // Chains of tables that take rows of signs one by one, and hand them on to a sink.
 #![tactic(auto)]
 
+pub mod at_most;
 pub mod cell;
 pub mod chain;
 pub mod leaving;

@@ -1,30 +1,24 @@
 // A table in a chain, and the rows that it hands on.
-ghost use Rattle.std.specs.Prelude.{◌≡◌, ◌≤◌, length, slice_index_or};
+ghost use Rattle.std.specs.Prelude.{◌≡◌, slice_index_or};
 ghost use Rattle.field.specs.declared.sign.Sign.TheVariants.{Zero};
 ghost use Rattle.sign_table.specs.Deduce.{insert_at};
 ghost use Rattle.stream.specs.Stage.{filled_by};
 ghost use Rattle.row_stream.specs.Signs.{signs_of};
-ghost use Rattle.row_stream.specs.Filling.{plan_of};
+ghost use Rattle.row_stream.specs.AtMost.{values_of};
 
+use crate::at_most::AtMost;
 use crate::signs::Signs;
 use field::sign::Sign;
 use std::cmp::Ordering;
 
-// The sign of each polynomial that has the same one in every row; none: it has the next of the real ones' signs.
+// Of each polynomial the sign that it has in every row; none: it has the next of the real ones' signs.
+pub type Plan = AtMost<Option<Sign>, 63>;
+
 #[derive(Clone, Copy)]
 pub struct Stage {
-    pub plan: [Option<Sign>; 63],
-    pub count: usize,
+    pub plan: Plan,
     pub place: usize,
     pub divisors: usize,
-}
-
-impl Stage {
-    pub fn plan(&self) -> &[Option<Sign>]
-        ensures { result.now ≡ plan_of self.now }
-    {
-        &self.plan[..self.count.min(63)]
-    }
 }
 
 // The sign at place j among the others, once s is put at a place among them.
@@ -40,18 +34,18 @@ fn inserted_at(place: usize, s: Sign, others: &[Sign], j: usize) -> Sign
 }
 
 // The row by this plan, in which p at its place among the real ones has the sign s.
-pub fn filled(plan: &[Option<Sign>], place: usize, s: Sign, others: &[Sign]) -> Signs
-    requires { length plan.now ≤ 63 }
-    ensures { signs_of result ≡ filled_by plan.now (insert_at place s others.now) }
+pub fn filled(plan: &Plan, place: usize, s: Sign, others: &[Sign]) -> Signs
+    ensures { signs_of result ≡ filled_by (values_of plan.now) (insert_at place s others.now) }
 {
-    let mut signs = [Sign::Zero; 63];
+    let plan = plan.view();
+    let mut items = [Sign::Zero; 63];
     let mut open = 0;
     for (i, slot) in plan.iter().enumerate() {
-        signs[i] = slot.unwrap_or(inserted_at(place, s, others, open));
+        items[i] = slot.unwrap_or(inserted_at(place, s, others, open));
         open += usize::from(slot.is_none());
     }
     Signs {
-        signs,
+        items,
         count: plan.len(),
     }
 }

@@ -8,9 +8,9 @@ ghost use Rattle.row_stream.specs.Leaving.{entry_row};
 ghost use Rattle.row_stream.specs.Taken.{taken_of, PointTakenAs, EndTakenAs};
 
 use crate::cell::{Cell, Side, left_end};
-use crate::leaving::{Entry, Gap, Leaving, until_end, until_point};
+use crate::leaving::{Entry, Gap, Leaving, nothing, until_end, until_point};
 use crate::looks::{any_zero, at_root, first_sign, point_stays, way_between, without_first};
-use crate::signs::{Signs, back, copied, front};
+use crate::signs::{Signs, back, front};
 use crate::stage::{Stage, filled};
 use field::sign::Sign;
 
@@ -30,7 +30,7 @@ pub fn entry_row(stage: &Stage, e: Entry, o: &[Sign], x: &[Sign]) -> Signs
         Entry::Interval(s) => (s, o),
         Entry::Point(s) => (s, x),
     };
-    filled(stage.plan(), stage.place, sign, without_first(others))
+    filled(&stage.plan, stage.place, sign, without_first(others))
 }
 
 // A point that stays comes after an interval where the others' signs are held.
@@ -58,20 +58,20 @@ pub fn take_row(stage: &Stage, cell: Cell, row: &Signs) -> Result<Taken, Gap>
     let row = row.view();
     let x = front(row, stage.divisors);
     let Some(held) = cell.held else {
-        let held = copied(x);
+        let held = Signs::copied(x, Sign::Zero);
         return Ok(Taken {
             cell: Cell {
                 held: Some(held),
                 ..cell
             },
-            leaving: Leaving::nothing(),
+            leaving: nothing(),
             held,
         });
     };
     if !any_zero(x) {
         return Ok(Taken {
             cell: Cell { held: None, ..cell },
-            leaving: Leaving::nothing(),
+            leaving: nothing(),
             held,
         });
     }
@@ -86,8 +86,8 @@ pub fn take_end(cell: Cell) -> Result<Taken, Gap>
     let Some(held) = cell.held else {
         return Ok(Taken {
             cell,
-            leaving: Leaving::nothing(),
-            held: copied(&[]),
+            leaving: nothing(),
+            held: Signs::copied(&[], Sign::Zero),
         });
     };
     let o = held.view();

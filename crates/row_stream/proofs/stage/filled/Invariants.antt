@@ -5,4 +5,4 @@ use Rattle.row_stream.proofs.Fill.{FilledTo}
 use Rattle.row_stream.proofs.stage.filled.Given as goal
 
 abbrev pub invariant-loop-i : goal.invariant-loop-i
-invariant-loop-i l = (length l.signs ≡ 63) × (l.open ≤ l.i) × FilledTo l.plan (insert_at l.place l.s l.others) l.signs l.i l.open
+invariant-loop-i l = (length l.items ≡ 63) × (l.open ≤ l.i) × FilledTo l.plan (insert_at l.place l.s l.others) l.items l.i l.open
