@@ -16,19 +16,21 @@ pub enum Side {
     After(Option<Sign>),
 }
 
+impl Side {
+    // p's sign at the left end of an interval with these signs of the others.
+    pub fn left_end(self, signs: &[Sign]) -> Option<Sign>
+        ensures { known_of result ≡ left_end (side_of self) signs.now }
+    {
+        match self {
+            Side::Far => Some(first_sign(signs).flipped()),
+            Side::After(p) => p,
+        }
+    }
+}
+
 // What lies left of the last interval, and the others' signs on it while its point is still to come.
 #[derive(Clone, Copy)]
 pub struct Cell {
     pub side: Side,
     pub held: Option<Signs>,
-}
-
-// p's sign at the left end of an interval.
-pub fn left_end(side: Side, signs: &[Sign]) -> Option<Sign>
-    ensures { known_of result ≡ left_end (side_of side) signs.now }
-{
-    match side {
-        Side::Far => Some(first_sign(signs).flipped()),
-        Side::After(p) => p,
-    }
 }

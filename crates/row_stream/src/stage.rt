@@ -4,7 +4,7 @@ ghost use Rattle.field.specs.declared.sign.Sign.TheVariants.{Zero};
 ghost use Rattle.sign_table.specs.Deduce.{insert_at};
 ghost use Rattle.stream.specs.Stage.{filled_by};
 ghost use Rattle.row_stream.specs.Signs.{signs_of};
-ghost use Rattle.row_stream.specs.AtMost.{values_of};
+ghost use Rattle.row_stream.specs.Filling.{plan_of};
 
 use crate::at_most::AtMost;
 use crate::signs::Signs;
@@ -33,19 +33,21 @@ fn inserted_at(place: usize, s: Sign, others: &[Sign], j: usize) -> Sign
     }
 }
 
-// The row by this plan, in which p at its place among the real ones has the sign s.
-pub fn filled(plan: &Plan, place: usize, s: Sign, others: &[Sign]) -> Signs
-    ensures { signs_of result ≡ filled_by (values_of plan.now) (insert_at place s others.now) }
-{
-    let plan = plan.view();
-    let mut items = [Sign::Zero; 63];
-    let mut open = 0;
-    for (i, slot) in plan.iter().enumerate() {
-        items[i] = slot.unwrap_or(inserted_at(place, s, others, open));
-        open += usize::from(slot.is_none());
-    }
-    Signs {
-        items,
-        count: plan.len(),
+impl Stage {
+    // The row by the plan, in which p at its place among the real ones has the sign s.
+    pub fn filled(&self, s: Sign, others: &[Sign]) -> Signs
+        ensures { signs_of result ≡ filled_by (plan_of self.now) (insert_at self.now.place s others.now) }
+    {
+        let plan = self.plan.view();
+        let mut items = [Sign::Zero; 63];
+        let mut open = 0;
+        for (i, slot) in plan.iter().enumerate() {
+            items[i] = slot.unwrap_or(inserted_at(self.place, s, others, open));
+            open += usize::from(slot.is_none());
+        }
+        Signs {
+            items,
+            count: plan.len(),
+        }
     }
 }

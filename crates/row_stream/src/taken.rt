@@ -7,11 +7,11 @@ ghost use Rattle.row_stream.specs.Cells.{cell_of};
 ghost use Rattle.row_stream.specs.Leaving.{entry_row};
 ghost use Rattle.row_stream.specs.Taken.{taken_of, PointTakenAs, EndTakenAs};
 
-use crate::cell::{Cell, Side, left_end};
+use crate::cell::{Cell, Side};
 use crate::leaving::{Entry, Gap, Leaving, nothing, until_end, until_point};
 use crate::looks::{any_zero, at_root, first_sign, point_stays, way_between, without_first};
 use crate::signs::{Signs, back, front};
-use crate::stage::{Stage, filled};
+use crate::stage::Stage;
 use field::sign::Sign;
 
 // The cell afterwards; what leaves; and the others' signs on the last interval.
@@ -30,14 +30,14 @@ pub fn entry_row(stage: &Stage, e: Entry, o: &[Sign], x: &[Sign]) -> Signs
         Entry::Interval(s) => (s, o),
         Entry::Point(s) => (s, x),
     };
-    filled(&stage.plan, stage.place, sign, without_first(others))
+    stage.filled(sign, without_first(others))
 }
 
 // A point that stays comes after an interval where the others' signs are held.
 fn point_taken(side: Side, held: Signs, p: Option<Sign>, x: &[Sign]) -> Result<Taken, Gap>
     ensures { PointTakenAs side held p x.now result }
 {
-    let way = way_between(left_end(side, held.view()), p);
+    let way = way_between(side.left_end(held.view()), p);
     let leaving = until_point(way, p, point_stays(p, x))?;
     let cell = Cell {
         side: Side::After(p),
@@ -91,7 +91,7 @@ pub fn take_end(cell: Cell) -> Result<Taken, Gap>
         });
     };
     let o = held.view();
-    let way = way_between(left_end(cell.side, o), Some(first_sign(o)));
+    let way = way_between(cell.side.left_end(o), Some(first_sign(o)));
     let leaving = until_end(way)?;
     Ok(Taken {
         cell,
