@@ -24,21 +24,15 @@ before_tree ForAll = refl
 before_tree Exists = refl
 
 join_tree : (q : Quantifier) (a b : Answer) → tree_of (join_of q a b) ≡ joined (over_all q) (tree_of a) (tree_of b)
-join_tree Exists Yes Yes = refl
-join_tree Exists Yes No = refl
-join_tree Exists Yes GivenUp = refl
-join_tree Exists No Yes = refl
-join_tree Exists No No = refl
-join_tree Exists No GivenUp = refl
+join_tree Exists Yes b = refl
+join_tree Exists No b = refl
 join_tree Exists GivenUp Yes = refl
 join_tree Exists GivenUp No = refl
 join_tree Exists GivenUp GivenUp = refl
 join_tree ForAll Yes Yes = refl
 join_tree ForAll Yes No = refl
 join_tree ForAll Yes GivenUp = refl
-join_tree ForAll No Yes = refl
-join_tree ForAll No No = refl
-join_tree ForAll No GivenUp = refl
+join_tree ForAll No b = refl
 join_tree ForAll GivenUp Yes = refl
 join_tree ForAll GivenUp No = refl
 join_tree ForAll GivenUp GivenUp = refl
