@@ -13,15 +13,15 @@ use Rattle.field.specs.declared.sign.Sign.TheVariants.{Neg, Zero, Pos}
 use Rattle.sign_table.specs.Deduce.{is_zero_sign, any_zero, at_root}
 use Rattle.row_stream.specs.Known.{known_of}
 
-pub is_zero_test : (s : Sign) → sameb the_type s Zero ≡ is_zero_sign s
+is_zero_test : (s : Sign) → sameb the_type s Zero ≡ is_zero_sign s
 is_zero_test Neg = refl
 is_zero_test Zero = refl
 is_zero_test Pos = refl
 
-pub any_zero_is : (xs : List Sign) → list_any is_zero_sign xs ≡ any_zero xs
+pub any_zero_is : (xs : List Sign) → list_any (λ s. sameb the_type s Zero) xs ≡ any_zero xs
 unfolding any_zero
 any_zero_is [] = refl
-any_zero_is (x ∷ xs) = ap (λ b. is_zero_sign x || b) (any_zero_is xs)
+any_zero_is (x ∷ xs) = ap₂ (λ a b. a || b) (is_zero_test x) (any_zero_is xs)
 
 -- the remainder at this place, if there is one
 abbrev pub remainder_at : List Sign → Option ℕ → Option Sign
