@@ -1,45 +1,58 @@
--- Zeros among the signs of a row, looked for place by place. Assumes nothing.
-use Rattle.std.proofs.Common.{◌≡◌, ℕ, ◌+◌, ◌<◌, ◌≤◌, true, false, cond, ◌||◌, List, [], ◌∷◌, length, get_or, drop, sym, refl, ap, ◌∙◌, ap₂, add-one, drop_of_length-le, drop-cons}
+-- The first zero among the signs of a row. Assumes nothing.
+use Rattle.std.proofs.Common.{◌≡◌, ℕ, suc, ◌+◌, ltb, arith, ap₂, length, Bool, true, false, cond, ◌||◌, List, [], ◌∷◌, Option, Some, None, refl, sym, ap, ◌∙◌, slice_get}
+use Rattle.std.specs.List.{list_any, position, position_or_len}
+use Rattle.std.specs.Option.{option_and_then, option_copied}
+use Rattle.std.specs.Slice.{IsItemAt}
+use Rattle.std.proofs.lemmas.Option.{slice_get_past, slice_get_read}
+use denote.Ref.{Bor}
+use Rattle.std.proofs.lemmas.Bool.Decides.{nat_tests}
+use denote.Enum.Bare.{sameb}
+use Rattle.field.specs.contracts.sign.Sign.{the_type}
 use Rattle.field.specs.declared.sign.Sign.{Sign}
-use Rattle.sign_table.specs.Facts.{Unknown, Is}
+use Rattle.field.specs.declared.sign.Sign.TheVariants.{Neg, Zero, Pos}
 use Rattle.sign_table.specs.Deduce.{is_zero_sign, any_zero, at_root}
+use Rattle.row_stream.specs.Known.{known_of}
 
-module _ (xs : List Sign) (i : ℕ) (d : Sign) (h : i < length xs) where
-  zero_split : any_zero (drop i xs) ≡ is_zero_sign (get_or xs i d) || any_zero (drop (i + 1) xs)
-  unfolding any_zero
-  zero_split = ap any_zero (drop-cons xs i d h) ∙ ap (λ k. is_zero_sign (get_or xs i d) || any_zero (drop k xs)) (sym (add-one i))
+is_zero_test : (s : Sign) → sameb the_type s Zero ≡ is_zero_sign s
+is_zero_test Neg = refl
+is_zero_test Zero = refl
+is_zero_test Pos = refl
 
-  pub zero_found : true ≡ is_zero_sign (get_or xs i d) → any_zero xs ≡ any_zero (drop i xs) → true ≡ any_zero xs
-  zero_found e inv = ap (λ b. b || any_zero (drop (i + 1) xs)) e ∙ sym zero_split ∙ sym inv
-
-  pub zero_past : false ≡ is_zero_sign (get_or xs i d) → any_zero xs ≡ any_zero (drop i xs) → any_zero xs ≡ any_zero (drop (i + 1) xs)
-  zero_past e inv = inv ∙ zero_split ∙ ap (λ b. b || any_zero (drop (i + 1) xs)) (sym e)
-
-  module _ (rs : List Sign) (k : i < length rs) where
-    root_split : at_root (drop i xs) (drop i rs) ≡ cond (is_zero_sign (get_or xs i d)) (Is (get_or rs i d)) (at_root (drop (i + 1) xs) (drop (i + 1) rs))
-    unfolding at_root
-    root_split =
-        ap₂ at_root (drop-cons xs i d h) (drop-cons rs i d k)
-        ∙ ap (λ n. cond (is_zero_sign (get_or xs i d)) (Is (get_or rs i d)) (at_root (drop n xs) (drop n rs))) (sym (add-one i))
-
-    pub root_found : true ≡ is_zero_sign (get_or xs i d) → at_root xs rs ≡ at_root (drop i xs) (drop i rs) → Is (get_or rs i d) ≡ at_root xs rs
-    root_found e inv = ap (λ b. cond b (Is (get_or rs i d)) (at_root (drop (i + 1) xs) (drop (i + 1) rs))) e ∙ sym root_split ∙ sym inv
-
-    pub root_past : false ≡ is_zero_sign (get_or xs i d) → at_root xs rs ≡ at_root (drop i xs) (drop i rs) → at_root xs rs ≡ at_root (drop (i + 1) xs) (drop (i + 1) rs)
-    root_past e inv = inv ∙ root_split ∙ ap (λ b. cond b (Is (get_or rs i d)) (at_root (drop (i + 1) xs) (drop (i + 1) rs))) (sym e)
-
-pub zero_none : (xs : List Sign) (i : ℕ) → length xs ≤ i → any_zero xs ≡ any_zero (drop i xs) → false ≡ any_zero xs
+pub any_zero_is : (xs : List Sign) → list_any (λ s. sameb the_type s Zero) xs ≡ any_zero xs
 unfolding any_zero
-zero_none xs i h inv = sym (inv ∙ ap any_zero (drop_of_length-le xs h))
+any_zero_is [] = refl
+any_zero_is (x ∷ xs) = ap₂ (λ a b. a || b) (is_zero_test x) (any_zero_is xs)
 
-pub root_none : (xs rs : List Sign) (i : ℕ) → length xs ≤ i → at_root xs rs ≡ at_root (drop i xs) (drop i rs) → Unknown ≡ at_root xs rs
+-- the remainder at this place, if there is one
+abbrev pub remainder_at : List Sign → Option ℕ → Option Sign
+remainder_at rs place = option_and_then (slice_get rs) place
+
+one_later : (r : Sign) (rs : List Sign) (b : Bool) (m : ℕ) → remainder_at (r ∷ rs) (cond b (Some (suc m)) None) ≡ remainder_at rs (cond b (Some m) None)
+one_later r rs true m = refl
+one_later r rs false m = refl
+
+one_place_later : (r : Sign) (rs : List Sign) (m n : ℕ) → remainder_at (r ∷ rs) (cond (ltb (1 + m) (suc n)) (Some (1 + m)) None) ≡ remainder_at rs (cond (ltb m n) (Some m) None)
+one_place_later r rs m n =
+    let e : ltb (1 + m) (suc n) ≡ ltb m n = grind (arith, nat_tests) in
+    let f : 1 + m ≡ suc m = omega arith in
+    ap₂ (λ b k. remainder_at (r ∷ rs) (cond b (Some k) None)) e f ∙ one_later r rs (ltb m n) m
+
+at_once : (r : Sign) (rs : List Sign) (n : ℕ) → remainder_at (r ∷ rs) (cond (ltb 0 (suc n)) (Some 0) None) ≡ Some r
+at_once r rs n = let e : ltb 0 (suc n) ≡ true = grind (arith, nat_tests) in ap (λ b. remainder_at (r ∷ rs) (cond b (Some 0) None)) e
+
+none_there : (place : Option ℕ) → remainder_at [] place ≡ None
+none_there None = refl
+none_there (Some i) = refl
+
+pub root_at_first : (xs rs : List Sign) → known_of (remainder_at rs (position is_zero_sign xs)) ≡ at_root xs rs
 unfolding at_root
-root_none xs rs i h inv = sym (inv ∙ ap (λ ys. at_root ys (drop i rs)) (drop_of_length-le xs h))
+root_at_first [] rs = refl
+root_at_first (x ∷ xs) [] = ap known_of (none_there (position is_zero_sign (x ∷ xs)))
+root_at_first (Zero ∷ xs) (r ∷ rs) = ap known_of (at_once r rs (length xs))
+root_at_first (Neg ∷ xs) (r ∷ rs) = ap known_of (one_place_later r rs (position_or_len is_zero_sign xs) (length xs)) ∙ root_at_first xs rs
+root_at_first (Pos ∷ xs) (r ∷ rs) = ap known_of (one_place_later r rs (position_or_len is_zero_sign xs) (length xs)) ∙ root_at_first xs rs
 
-no_remainder : (xs : List Sign) → at_root xs [] ≡ Unknown
-unfolding at_root
-no_remainder [] = refl
-no_remainder (x ∷ xs) = refl
-
-pub remainder_none : (xs rs : List Sign) (i : ℕ) → length rs ≤ i → at_root xs rs ≡ at_root (drop i xs) (drop i rs) → Unknown ≡ at_root xs rs
-remainder_none xs rs i h inv = sym (inv ∙ ap (at_root (drop i xs)) (drop_of_length-le rs h) ∙ no_remainder (drop i xs))
+-- what `get` gives, copied
+pub copied_get : (rs : List Sign) (i : ℕ) (r : Option (Bor Sign)) → IsItemAt rs i r → option_copied r ≡ slice_get rs i
+copied_get rs i None h = sym (slice_get_past rs i h.3)
+copied_get rs i (Some x) h = sym (slice_get_read rs (length rs) i x.now refl h.3.0 h.1)

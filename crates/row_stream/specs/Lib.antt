@@ -1,8 +1,10 @@
 -- What the code's values stand for.
 pub mod Known
+pub mod AtMost
 pub mod Signs
 pub mod Filling
 pub mod Cells
+pub mod Tables
 pub mod Leaving
 pub mod Taken
 pub mod Reached

@@ -1,7 +1,8 @@
 -- The signs of a row. Assumes nothing.
-use Rattle.std.specs.Prelude.{min, List, take}
+use Rattle.std.specs.Prelude.{List}
 use Rattle.field.specs.declared.sign.Sign.{Sign}
-use Rattle.row_stream.specs.declared.signs.Signs.{Signs}
+use Rattle.row_stream.specs.declared.at_most.AtMost.{AtMost}
+use Rattle.row_stream.specs.AtMost.{values_of}
 
-abbrev pub signs_of : Signs → List Sign
-signs_of r = take (min r.count 63) r.signs
+abbrev pub signs_of : AtMost Sign 63 → List Sign
+signs_of r = values_of r

@@ -9,25 +9,28 @@ use crate::signs::Signs;
 use field::sign::Sign;
 
 // What lies left of an interval: no point that stays, or one, with p's sign there.
-#[derive(Clone, Copy)]
+// An enum of its own, since an Option of an Option wouldn't say which None is which.
+#[derive(Clone, Copy, PartialEq, Eq, Debug)]
 pub enum Side {
     Far,
     After(Option<Sign>),
 }
 
-// Only the side; or the others' signs on the last interval too.
-#[derive(Clone, Copy)]
-pub enum Cell {
-    Clear(Side),
-    Held(Side, Signs),
+impl Side {
+    // p's sign at the left end of an interval with these signs of the others.
+    pub fn left_end(self, signs: &[Sign]) -> Option<Sign>
+        ensures { known_of result ≡ left_end (side_of self) signs.now }
+    {
+        match self {
+            Side::Far => Some(first_sign(signs).flipped()),
+            Side::After(p) => p,
+        }
+    }
 }
 
-// p's sign at the left end of an interval.
-pub fn left_end(side: Side, signs: &[Sign]) -> Option<Sign>
-    ensures { known_of result ≡ left_end (side_of side) signs.now }
-{
-    match side {
-        Side::Far => Some(first_sign(signs).flipped()),
-        Side::After(p) => p,
-    }
+// What lies left of the last interval, and the others' signs on it while its point is still to come.
+#[derive(Clone, Copy)]
+pub struct Cell {
+    pub side: Side,
+    pub held: Option<Signs>,
 }

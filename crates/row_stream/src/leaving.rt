@@ -1,107 +1,79 @@
 // The rows that leave a table at once, at most four, each by p's sign and where it is.
-ghost use Rattle.std.specs.Prelude.{◌≡◌, []};
+ghost use Rattle.std.specs.Prelude.{◌≡◌, ◌≤◌, [], ◌∷◌, length};
+ghost use Rattle.field.specs.declared.sign.Sign.TheVariants.{Zero};
+ghost use Rattle.field.specs.Sign.{flip};
+ghost use Rattle.row_stream.specs.declared.leaving.Entry.TheVariants.{Interval};
 ghost use Rattle.row_stream.specs.Known.{known_of};
-ghost use Rattle.row_stream.specs.Leaving.{entries_of, leaving_of, interval, entries_to_point, entries_to_end};
+ghost use Rattle.row_stream.specs.Leaving.{entries_of, leaving_of, entries_to_point, entries_to_end};
 
-use crate::looks::the_sign;
-use crate::signs::least;
+use crate::at_most::AtMost;
 use field::sign::Sign;
 use stream::way::Way;
 
-// Whether it is the row of the point, or one of the interval before it.
-#[derive(Clone, Copy)]
-pub struct Entry {
-    pub sign: Sign,
-    pub point: bool,
+// p's sign on an interval, or at the point after it.
+#[derive(Clone, Copy, PartialEq, Eq, Debug)]
+pub enum Entry {
+    Interval(Sign),
+    Point(Sign),
 }
 
-#[derive(Clone, Copy)]
-pub struct Leaving {
-    pub entries: [Entry; 4],
-    pub count: usize,
-}
+// p's sign isn't known in a row that stays.
+#[derive(Clone, Copy, PartialEq, Eq, Debug)]
+pub struct Gap;
 
-impl Leaving {
-    pub fn nothing() -> Leaving
-        ensures { entries_of result ≡ [] }
-    {
-        Leaving {
-            entries: [on_interval(Sign::Zero); 4],
-            count: 0,
-        }
-    }
+pub type Leaving = AtMost<Entry, 4>;
 
-    pub fn view(&self) -> &[Entry]
-        ensures { result.now ≡ entries_of self.now }
-    {
-        &self.entries[0..least(self.count, 4)]
-    }
-}
-
-fn on_interval(sign: Sign) -> Entry
-    ensures { result ≡ interval sign }
+fn leaving(entries: &[Entry]) -> Leaving
+    requires { length entries.now ≤ 4 }
+    ensures { entries_of result ≡ entries.now }
 {
-    Entry { sign, point: false }
+    Leaving::copied(entries, Entry::Interval(Sign::Zero))
 }
 
-// What leaves when a point comes; nothing where there is a gap.
-pub fn until_point(way: Way, p: Option<Sign>, stays: bool) -> Option<Leaving>
+pub fn nothing() -> Leaving
+    ensures { entries_of result ≡ [] }
+{
+    leaving(&[])
+}
+
+// An interval on which p goes from this sign through a root to the opposite one.
+fn crossing(s: Sign) -> [Entry; 3]
+    ensures { result ≡ Interval s ∷ Interval Zero ∷ Interval (flip s) ∷ [] }
+{
+    [
+        Entry::Interval(s),
+        Entry::Interval(Sign::Zero),
+        Entry::Interval(s.flipped()),
+    ]
+}
+
+// What leaves when a point comes.
+pub fn until_point(way: Way, p: Option<Sign>, stays: bool) -> Result<Leaving, Gap>
     ensures { leaving_of result ≡ entries_to_point way (known_of p) stays }
 {
-    let last = Entry {
-        sign: the_sign(p),
-        point: true,
-    };
+    let point = Entry::Point(p.unwrap_or(Sign::Zero));
     match way {
-        Way::Stays(s) => {
-            let only = on_interval(s);
-            Some(Leaving {
-                entries: [only, last, last, last],
-                count: if stays { 2 } else { 0 },
-            })
-        }
+        Way::Stays(s) if stays => Ok(leaving(&[Entry::Interval(s), point])),
         Way::Crosses(s) => {
-            let before = on_interval(s);
-            let root = on_interval(Sign::Zero);
-            let behind = on_interval(s.flipped());
-            Some(Leaving {
-                entries: [before, root, behind, last],
-                count: if stays { 4 } else { 2 },
+            let [before, root, behind] = crossing(s);
+            Ok(if stays {
+                leaving(&[before, root, behind, point])
+            } else {
+                leaving(&[before, root])
             })
         }
-        Way::Lost => {
-            if stays {
-                return None;
-            }
-            Some(Leaving {
-                entries: [last, last, last, last],
-                count: 0,
-            })
-        }
+        Way::Lost if stays => Err(Gap),
+        Way::Stays(_) | Way::Lost => Ok(nothing()),
     }
 }
 
 // What leaves at the end.
-pub fn until_end(way: Way) -> Option<Leaving>
+pub fn until_end(way: Way) -> Result<Leaving, Gap>
     ensures { leaving_of result ≡ entries_to_end way }
 {
     match way {
-        Way::Stays(s) => {
-            let only = on_interval(s);
-            Some(Leaving {
-                entries: [only, only, only, only],
-                count: 1,
-            })
-        }
-        Way::Crosses(s) => {
-            let before = on_interval(s);
-            let root = on_interval(Sign::Zero);
-            let behind = on_interval(s.flipped());
-            Some(Leaving {
-                entries: [before, root, behind, behind],
-                count: 3,
-            })
-        }
-        Way::Lost => None,
+        Way::Stays(s) => Ok(leaving(&[Entry::Interval(s)])),
+        Way::Crosses(s) => Ok(leaving(&crossing(s))),
+        Way::Lost => Err(Gap),
     }
 }

@@ -1,11 +1,12 @@
 // Chains of tables that take rows of signs one by one, and hand them on to a sink.
 #![tactic(auto)]
 
-pub mod answer;
+pub mod at_most;
 pub mod cell;
 pub mod chain;
 pub mod leaving;
 pub mod looks;
+pub mod quantifier;
 pub mod signs;
 pub mod sink;
 pub mod stage;

@@ -1,19 +1,21 @@
 // What is answered over all the rows of a chain's outermost table, to "some" or to "every".
-ghost use Rattle.std.specs.Prelude.{◌≡◌, ◌≤◌, List, length};
+ghost use Rattle.std.specs.Prelude.{◌≡◌, List};
 ghost use Rattle.field.specs.declared.sign.Sign.{Sign as RowSign};
 ghost use Rattle.stream.specs.Chain.{run as chain_run};
 ghost use Rattle.stream.specs.Fold.{before as before_rows, joined};
 ghost use Rattle.stream.specs.Resume.{answered};
-ghost use Rattle.row_stream.specs.declared.answer.Answer.{Answer as RowAnswer};
-ghost use Rattle.row_stream.specs.Filling.{stages_of};
-ghost use Rattle.row_stream.specs.Joined.{join_of, tree_of};
+ghost use Rattle.words.specs.declared.answer.Answer.{Answer as RowAnswer};
+ghost use Rattle.row_stream.specs.Signs.{signs_of};
+ghost use Rattle.row_stream.specs.Tables.{stages_of};
+ghost use Rattle.row_stream.specs.Joined.{join_of, over_all, tree_of};
 
-use crate::answer::{Answer, first_answer, is_settled, join};
-use crate::cell::Cell;
-use crate::chain::run;
+use crate::chain::{Table, run};
+use crate::leaving::Gap;
+use crate::quantifier::Quantifier;
+use crate::signs::Signs;
 use crate::sink::Sink;
-use crate::stage::Stage;
 use field::sign::Sign;
+use words::answer::Answer;
 
 // What is answered in a row.
 pub trait Judge {
@@ -27,40 +29,39 @@ pub trait Judge {
 #[derive(Drop)]
 pub struct Tally<J> {
     judge: J,
-    all: bool,
+    quantifier: Quantifier,
     answer: Answer,
 }
 
 impl<J: Judge> Sink for Tally<J> {
-    ghost grown = { λ t row. record { judge = t.judge; all = t.all; answer = join_of t.all t.answer (J.Judge.says t.judge row) } };
+    ghost grown = { λ t row. record { judge = t.judge; quantifier = t.quantifier; answer = join_of t.quantifier t.answer (J.Judge.says t.judge row) } };
 
     fn take(&mut self, row: &[Sign]) {
-        if is_settled(self.all, self.answer) {
+        if self.quantifier.is_settled(self.answer) {
             return;
         }
         let said = self.judge.answer(row);
-        self.answer = join(self.all, self.answer, said);
+        self.answer = self.quantifier.join(self.answer, said);
     }
 }
 
 // The answer over the rows that a table of one row alone gives through all of these; it is given up where there is a gap.
 pub fn over_rows<J: Judge + Drop>(
-    all: bool,
+    quantifier: Quantifier,
     judge: J,
-    stages: &[Stage],
-    cells: &mut [Cell],
-    row: &[Sign],
+    tables: &mut [Table],
+    row: &Signs,
 ) -> Answer
-    requires { (length row.now ≤ 63) × (length stages.now ≡ length cells.old) }
-    ensures { tree_of result ≡ answered (λ u. u) (chain_run (λ a s. joined all a (tree_of (J.Judge.says judge s))) (stages_of stages.now) (before_rows all) row.now) }
+    ensures stages { stages_of tables.new ≡ stages_of tables.old }
+    ensures rows { tree_of result ≡ answered (λ u. u) (chain_run (λ a s. joined (over_all quantifier) a (tree_of (J.Judge.says judge s))) (stages_of tables.old) (before_rows (over_all quantifier)) (signs_of row.now)) }
 {
     let mut tally = Tally {
         judge,
-        all,
-        answer: first_answer(all),
+        quantifier,
+        answer: quantifier.first_answer(),
     };
-    if run(stages, cells, &mut tally, row) {
-        return tally.answer;
+    match run(tables, &mut tally, row) {
+        Ok(()) => tally.answer,
+        Err(Gap) => Answer::GivenUp,
     }
-    Answer::GivenUp
 }

@@ -1,6 +1,6 @@
 -- A chain of tables: a push and a close keep what the sink will be, and a whole run gives it the outermost table's rows. Assumes nothing.
 use mathlib.Core.Path.{◌≡◌, refl, sym, ◌∙◌, ap}
-use mathlib.Core.List.{List, [], ◌∷◌, ◌++◌, map, foldl, append-nil}
+use mathlib.Core.List.{List, [], ◌∷◌, ◌++◌, foldl, append-nil}
 use Rattle.field.specs.declared.sign.Sign.{Sign}
 use Rattle.stream.specs.Stage.{Stage, Outcome, Went, upon, table_rows, outermost_rows}
 use Rattle.stream.specs.Step.{Cell, Stepped, stepped, closing, flow}
@@ -59,7 +59,7 @@ module _ {A : Type 0} (grow : A → List Sign → A) where
       ∙ upon-same (pushed_all (pushed grow fs) cs a out) (λ t. close-answers fs t.cells t.sink))
 
   fresh-means : (fs : List Stage) (a : A) (m : List (List Sign)) → meaning grow fs (fresh fs) a m ≡ upon (outermost_rows fs m) (λ rows. Went (foldl grow a rows))
-  unfolding meaning outermost_rows map
+  unfolding meaning outermost_rows
   fresh-means [] a m = refl
   fresh-means (f ∷ fs) a m =
       ap (λ r. upon r (λ out. meaning grow fs (fresh fs) a out)) (flow_deduces f m)

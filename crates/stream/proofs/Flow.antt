@@ -37,7 +37,7 @@ module _ (f : Stage) where
   given_after out ws = upon_if (all_known ws) (map (filled_by f.plan) (inserted f.place ws)) (λ rows. out ++ rows)
 
   last-interval : (w : Way) (o : List Sign) → until_end f w o ≡ rows_given f (condensed_all (dropped (along w o [])))
-  unfolding all_known condensed_by map
+  unfolding all_known condensed_by
   last-interval (Stays s) o = refl
   last-interval (Crosses s) o = refl
   last-interval Lost o = refl
@@ -57,14 +57,14 @@ module _ (f : Stage) where
 
   stays_if : (b : Bool) (s t : Sign) (o x : List Sign) (ws : List Row) →
       before_rows ws (cond b (row_out s o ∷ row_out t x ∷ []) []) ≡ rows_given f (kept_if b (row_is s o) (row_is t x) ws)
-  unfolding all_known map
+  unfolding all_known
   stays_if true s t o x ws = given_after (row_out s o ∷ row_out t x ∷ []) ws
   stays_if false s t o x ws = upon_went (rows_given f ws)
 
   crosses_if : (b : Bool) (s t : Sign) (o x : List Sign) (ws : List Row) →
       before_rows ws (row_out s o ∷ row_out Zero o ∷ cond b (row_out (flip s) o ∷ row_out t x ∷ []) []) ≡
       rows_given f (row_is s o ∷ row_is Zero o ∷ kept_if b (row_is (flip s) o) (row_is t x) ws)
-  unfolding all_known map
+  unfolding all_known
   crosses_if true s t o x ws = given_after (row_out s o ∷ row_out Zero o ∷ row_out (flip s) o ∷ row_out t x ∷ []) ws
   crosses_if false s t o x ws = given_after (row_out s o ∷ row_out Zero o ∷ []) ws
 
@@ -75,11 +75,11 @@ module _ (f : Stage) where
       rows_given f (condensed_all (dropped (along w o (record { this = p; others = x } ∷ R))))
 
   pair_lost : (o : List Sign) (p : Known) (x : List Sign) (R : List Row) → PairGiven Lost o p x R
-  unfolding PairGiven condensed_by map
+  unfolding PairGiven condensed_by
   pair_lost o p x R = lost_if (point_stays p x) (without_first_sign o) (record { this = p; others = without_first_sign x }) (condensed_all (dropped R))
 
   pair_known : (w : Way) (o : List Sign) (t : Sign) (x : List Sign) (R : List Row) → PairGiven w o (Is t) x R
-  unfolding PairGiven condensed_by map
+  unfolding PairGiven condensed_by
   pair_known (Stays s) o t x R = stays_if (point_stays (Is t) x) s t (without_first_sign o) (without_first_sign x) (condensed_all (dropped R))
   pair_known (Crosses s) o t x R = crosses_if (point_stays (Is t) x) s t (without_first_sign o) (without_first_sign x) (condensed_all (dropped R))
   pair_known Lost o t x R = pair_lost o (Is t) x R
@@ -106,7 +106,7 @@ module _ (f : Stage) where
       ∙ ap (λ l. rows_given f (condensed_all (dropped (between l p o (e ∷ intervals p rs))))) (sym (left_first side i (e ∷ rs)))
 
   flow_from : (side : Side) (m : List (List Sign)) → flow f (Clear side) m ≡ rows_given f (deduced_from side (condensed (rows_of f.divisors m)))
-  unfolding flow stepped closing condensed_by intervals map all_known
+  unfolding flow stepped closing condensed_by intervals all_known
   flow_from side [] = refl
   flow_from side (i ∷ []) =
       let o = take f.divisors i in

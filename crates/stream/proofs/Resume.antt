@@ -34,7 +34,7 @@ table_resumes leaf frames h true rows = h rows
 table_resumes leaf frames h false rows = refl
 
 resume_rows : (leaf : List (List Sign) → Tree) (frames : List Frame) (rows : List (List Sign)) → resume leaf frames rows ≡ answered leaf (outermost_rows (stages_of frames) rows)
-unfolding resume outermost_rows map
+unfolding resume outermost_rows
 resume_rows leaf [] rows = refl
 resume_rows leaf (Waiting ls i l ∷ frames) rows =
     let ws = deduced l rows in
@@ -43,7 +43,6 @@ resume_rows leaf (Waiting ls i l ∷ frames) rows =
 
 pub leaf_streams : {A : Type 0} (grow : A → List Sign → A) (finish : A → Tree) (a : A) (frames : List Frame) (ls : List Left) →
     resume (λ rows. finish (foldl grow a rows)) frames (filled_all ls ([] ∷ [])) ≡ answered finish (run grow (stages_of frames) a (filled_by (plan_of ls) []))
-unfolding map
 leaf_streams grow finish a frames ls =
     resume_rows (λ rows. finish (foldl grow a rows)) frames (filled_all ls ([] ∷ []))
     ∙ sym (answered-upon (foldl grow a) finish (outermost_rows (stages_of frames) (filled_all ls ([] ∷ []))))

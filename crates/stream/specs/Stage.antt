@@ -1,30 +1,28 @@
 -- What a table needs to know to make its rows from those of the table within it. Assumes nothing.
-use Rattle.std.specs.Prelude.{Bool, true, false, List, [], ◌∷◌, map, ℕ}
+use Rattle.std.specs.Prelude.{Bool, true, false, List, [], ◌∷◌, map, ℕ, Option, Some, None}
 use Rattle.field.specs.declared.sign.Sign.{Sign}
 use Rattle.field.specs.declared.sign.Sign.TheVariants.{Zero}
 use Rattle.sign_table.specs.Leadings.{Left, Plain, Real}
 use Rattle.sign_table.specs.Deduce.{deduced, all_known, inserted}
-use Rattle.stream.specs.declared.slot.Slot.{Slot}
-use Rattle.stream.specs.declared.slot.Slot.TheVariants.{Fixed, Open}
 
--- p stands at this place among the real ones; so many others, with p's derivative, stand before the remainders in a row of the table within
+-- A plan says of each polynomial the sign that it has in every row; none: it takes the next of the real ones' signs. p stands at this place among the real ones; so many others, with p's derivative, stand before the remainders in a row of the table within
 pub record Stage : Type 0 where
-  pub plan : List Slot
+  pub plan : List (Option Sign)
   pub place : ℕ
   pub divisors : ℕ
 
 -- the signs of all, from those of the real ones
-unfoldable pub filled_by : List Slot → List Sign → List Sign
+unfoldable pub filled_by : List (Option Sign) → List Sign → List Sign
 filled_by [] r = []
-filled_by (Fixed s ∷ ss) r = s ∷ filled_by ss r
-filled_by (Open ∷ ss) [] = Zero ∷ filled_by ss []
-filled_by (Open ∷ ss) (t ∷ r) = t ∷ filled_by ss r
+filled_by (Some s ∷ ss) r = s ∷ filled_by ss r
+filled_by (None ∷ ss) [] = Zero ∷ filled_by ss []
+filled_by (None ∷ ss) (t ∷ r) = t ∷ filled_by ss r
 
-abbrev pub slot_of : Left → Slot
-slot_of (Plain s) = Fixed s
-slot_of (Real p s) = Open
+abbrev pub slot_of : Left → Option Sign
+slot_of (Plain s) = Some s
+slot_of (Real p s) = None
 
-abbrev pub plan_of : List Left → List Slot
+abbrev pub plan_of : List Left → List (Option Sign)
 plan_of ls = map slot_of ls
 
 -- what a run over rows comes to; a gap: p's sign is unknown in a row that stays

@@ -1,7 +1,6 @@
 // Tables whose rows are never stored: each table takes the rows of the one within it, one by one, and hands on its own. The definitions stand in specs/, and each function below has a theorem of specs/Theorems.antt for its contract.
 #![tactic(auto)]
 
-pub mod slot;
 pub mod way;
 
 ghost use Rattle.stream.specs.Theorems.{FlowDeduces, PlanSuffices, PushAdvances, CloseAnswers, RunResumes, RowsFold, LeafStreams, QuantifierStreams};

@@ -1,9 +1,23 @@
--- A push gives to fewer tables, and at most four rows at once.
-use Rattle.std.proofs.Common.{◌+◌, ◌*◌, length}
+-- A push gives to fewer tables; the rows pushed so far, and then those that are left, come to the same as all of them.
+use Rattle.std.proofs.Common.{◌≡◌, ◌+◌, ◌*◌, length, drop}
+use Rattle.stream.specs.Chain.{pushed, pushed_all}
+use Rattle.row_stream.specs.Signs.{signs_of}
+use Rattle.row_stream.specs.Filling.{stage_of}
+use Rattle.row_stream.specs.Tables.{stages_of, cells_of}
+use Rattle.row_stream.specs.Leaving.{entries_of, entry_rows}
+use Rattle.row_stream.specs.Taken.{leaving_rows}
 use Rattle.row_stream.proofs.chain.+give_push.Given as goal
 
 abbrev pub decreases-give : goal.decreases-give
-decreases-give g l = 8 * length l.stages.now + 1 + length l.entries.now
+decreases-give g l = 2 * length l.tables.now + 1
 
 abbrev pub decreases-push : goal.decreases-push
-decreases-push g l = 8 * length l.stages.now
+decreases-push g l = 2 * length l.tables.now
+
+abbrev pub invariant-give-loop-entry : goal.invariant-give-loop-entry
+invariant-give-loop-entry g l = record {
+  same_stages : stages_of l.tables ≡ stages_of l.initial.tables;
+  same_rows :
+      pushed_all (pushed g.S.Sink.grown (stages_of l.initial.tables)) (cells_of l.initial.tables) l.initial.sink (leaving_rows (stage_of l.stage) l.x l.taken) ≡
+      pushed_all (pushed g.S.Sink.grown (stages_of l.initial.tables)) (cells_of l.tables) l.sink (entry_rows (stage_of l.stage) (signs_of l.taken.held) l.x (drop l.entry-index (entries_of l.taken.leaving)));
+}

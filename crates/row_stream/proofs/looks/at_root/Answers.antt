@@ -1,15 +1,24 @@
--- The first zero is found at its place, or none is left.
+-- The library's place is that of the first zero.
+use Rattle.std.proofs.Common.{◌≡◌, sym, ap, ◌∙◌, rules, slice_get, tests}
+use Rattle.std.specs.List.{position}
+use Rattle.std.proofs.lemmas.Iterator.{YieldsList-from_slice}
+use Rattle.std.proofs.lemmas.Iterator.Search.{position_from_yields_List}
+use Rattle.sign_table.specs.Deduce.{is_zero_sign}
+use Rattle.row_stream.specs.Known.{known_of}
+use Rattle.row_stream.proofs.Places.{copied_get, remainder_at, root_at_first}
 use Rattle.row_stream.proofs.looks.at_root.Goals as goal
-use Rattle.row_stream.proofs.Places.{root_found, root_past, root_none, remainder_none}
 
-pub returns-then-is_zero : goal.returns-then-is_zero
-returns-then-is_zero c = root_found c.args.signs.now c.loop-i.i _ c.loop-i-test.true c.args.remainders.now c.if-i-remainders.true c.if-is_zero.ensures c.loop-i.invariant
+pub returns-in_err-zero : goal.returns-in_err-zero
+returns-in_err-zero c =
+    let e : c.position.result ≡ position is_zero_sign c.args.signs.now =
+    position_from_yields_List is_zero_sign _ _ c.position.result c.position.ensures.ran (YieldsList-from_slice c.args.signs.now cc) (λ x b q k. search (rules, tests))
+    in
+    ap known_of c.from_residual.ensures ∙ ap (λ i. known_of (remainder_at c.args.remainders.now i)) (sym c.in_err-zero.was ∙ e) ∙ root_at_first c.args.signs.now c.args.remainders.now
 
-pub loop-i-preserved : goal.loop-i-preserved
-loop-i-preserved c = root_past c.args.signs.now c.loop-i.i _ c.loop-i-test.true c.args.remainders.now c.if-i-remainders.true c.if-is_zero.ensures c.loop-i.invariant
-
-pub returns-else-i-remainders : goal.returns-else-i-remainders
-returns-else-i-remainders c = remainder_none c.args.signs.now c.args.remainders.now c.loop-i.i c.if-i-remainders.false c.loop-i.invariant
-
-pub returns-after-loop-i : goal.returns-after-loop-i
-returns-after-loop-i c = root_none c.args.signs.now c.args.remainders.now c.loop-i.i c.loop-i-test.false c.loop-i.invariant
+pub returns : goal.returns
+returns c =
+    let e : c.position.result ≡ position is_zero_sign c.args.signs.now =
+    position_from_yields_List is_zero_sign _ _ c.position.result c.position.ensures.ran (YieldsList-from_slice c.args.signs.now cc) (λ x b q k. search (rules, tests))
+    in
+    let g : c.copied.result ≡ slice_get c.args.remainders.now c.in_ok-zero.zero = c.copied.ensures ∙ copied_get c.args.remainders.now c.in_ok-zero.zero c.get.result c.get.ensures.lookup in
+    ap known_of g ∙ ap (λ i. known_of (remainder_at c.args.remainders.now i)) (sym c.in_ok-zero.was ∙ e) ∙ root_at_first c.args.signs.now c.args.remainders.now
