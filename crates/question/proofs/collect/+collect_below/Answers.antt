@@ -10,8 +10,7 @@ use Rattle.question.proofs.collect.+collect_below.Goals as goal
 pub returns-in_default : goal.returns-in_default
 returns-in_default t c = record {
   stands = collects_none _ _ _ _ (length c.args.found.now.cells.now) c.in_default.not-Question;
-  long = refl;
-  lent = refl;
+  loan = record { long = refl; lent = refl };
 }
 
 pub returns-then-i-min : goal.returns-then-i-min
@@ -24,8 +23,7 @@ returns-then-i-min t c =
     let beyond : min c.args.limit c.args.questions.now.len ≤ c.in-Question.i = omega (arith, c.if-i-min.true, c.min.ensures, c.len.ensures) in
     record {
       stands = collects_beyond (take top cells) c.args.limit c.args.tree _ (length c.args.found.now.cells.now) c.in-Question.i c.args.questions.now.len c.in-Question.is few beyond;
-      long = refl;
-      lent = refl;
+      loan = record { long = refl; lent = refl };
     }
 
 pub returns-in_err-collect_below : goal.returns-in_err-collect_below
@@ -34,41 +32,37 @@ returns-in_err-collect_below t c =
     record {
       stands = refused_above (numbers c.args.questions.now) c.args.limit c.args.tree (standing c.args.found.now) (length c.args.found.now.cells.now) c.in-Question.i c.in-Question.is
           c.question-question.result c.question-question.ensures c.in_err-collect_below.ensures.stands p.0 _ p.1 _;
-      long = c.in_err-collect_below.ensures.long;
-      lent = search rules;
+      loan = record { long = c.in_err-collect_below.ensures.loan.long; lent = search rules };
     }
 
 pub returns-in_err-collect_below-2 : goal.returns-in_err-collect_below-2
 returns-in_err-collect_below-2 t c =
     let p = err_from_is_err_and c.from_residual-in_err-collect_below-2.result c.from_residual-in_err-collect_below-2.ensures.1 in
-    let long-one = c.in_ok-collect_below.ensures.long in
+    let long-one = c.in_ok-collect_below.ensures.loan.long in
     record {
       stands = refused_at (numbers c.args.questions.now) c.args.limit c.args.tree (standing c.args.found.now) (length c.args.found.now.cells.now) c.in-Question.i c.in-Question.is
           c.question-question.result c.question-question.ensures (standing c.collect_below.new.found) c.in_ok-collect_below.ensures.stands _ long-one c.in_err-collect_below-2.ensures.stands p.0 _ p.1 _;
-      long = c.in_err-collect_below-2.ensures.long ∙ long-one;
-      lent = search rules;
+      loan = record { long = c.in_err-collect_below-2.ensures.loan.long ∙ long-one; lent = search rules };
     }
 
 pub returns-in_err-collect_below-3 : goal.returns-in_err-collect_below-3
 returns-in_err-collect_below-3 t c =
     let p = err_from_is_err_and c.from_residual-in_err-collect_below-3.result c.from_residual-in_err-collect_below-3.ensures.1 in
-    let long-two = c.in_ok-collect_below-2.ensures.long ∙ c.in_ok-collect_below.ensures.long in
+    let long-two = c.in_ok-collect_below-2.ensures.loan.long ∙ c.in_ok-collect_below.ensures.loan.long in
     record {
       stands = refused_below (numbers c.args.questions.now) c.args.limit c.args.tree (standing c.args.found.now) (length c.args.found.now.cells.now) c.in-Question.i c.in-Question.is
           c.question-question.result c.question-question.ensures (standing c.collect_below.new.found) c.in_ok-collect_below.ensures.stands
           (standing c.collect_below-2.new.found) c.in_ok-collect_below-2.ensures.stands _ long-two c.in_err-collect_below-3.ensures.stands p.0 _ p.1 _;
-      long = c.in_err-collect_below-3.ensures.long ∙ long-two;
-      lent = search rules;
+      loan = record { long = c.in_err-collect_below-3.ensures.loan.long ∙ long-two; lent = search rules };
     }
 
 pub returns : goal.returns
 returns t c =
-    let long-three = c.in_ok-collect_below-3.ensures.long ∙ c.in_ok-collect_below-2.ensures.long ∙ c.in_ok-collect_below.ensures.long in
+    let long-three = c.in_ok-collect_below-3.ensures.loan.long ∙ c.in_ok-collect_below-2.ensures.loan.long ∙ c.in_ok-collect_below.ensures.loan.long in
     record {
       stands = collects_question (numbers c.args.questions.now) c.args.limit c.args.tree (standing c.args.found.now) (length c.args.found.now.cells.now) c.in-Question.i c.in-Question.is
           c.question-question.result c.question-question.ensures (standing c.collect_below.new.found) c.in_ok-collect_below.ensures.stands
           (standing c.collect_below-2.new.found) c.in_ok-collect_below-2.ensures.stands (standing c.collect_below-3.new.found) c.in_ok-collect_below-3.ensures.stands
           _ long-three c.note.result (standing c.note.new.found) c.note.ensures.stands;
-      long = c.note.ensures.long ∙ long-three;
-      lent = search rules;
+      loan = record { long = c.note.ensures.loan.long ∙ long-three; lent = search rules };
     }
