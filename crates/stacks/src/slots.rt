@@ -1,4 +1,4 @@
-// Polynomials in numbered slots of 65 numbers: how many monomials there are, then the monomials.
+// Polynomials in numbered slots of 65 numbers: how many monomials there are, then the monomials. The memory is lent, so the count stands in it too.
 ghost use Rattle.std.specs.Prelude.{◌≡◌, ℕ, ◌+◌, ◌*◌, ◌≤◌, length, take};
 ghost use Rattle.terms.specs.Cells.{monomials_of};
 ghost use Rattle.packed.specs.Stored.{Stored};
@@ -7,8 +7,9 @@ ghost use Rattle.stacks.specs.Written.{Written};
 ghost use Rattle.stacks.specs.Slots.{slot_of, slot_in};
 ghost use Rattle.stacks.specs.Memories.{AllHold};
 
-use crate::cells::{put, run_of, small_at};
+use crate::cells::{put, run_of};
 use packed::view::View;
+use question::tree::small_at;
 
 // How many numbers a slot takes.
 pub const SLOT: usize = 65;
@@ -50,7 +51,7 @@ pub fn put_polynomial(slots: &mut [i64], i: u16, monomials: &[i64])
     ensures { Written slot_in i monomials.now slots.old slots.new }
 {
     let at = SLOT * i as usize;
-    put(slots, at, &[i64::from(monomials.len() as u16)]);
+    put(slots, at, &[monomials.len() as i64]);
     put(slots, at + 1, monomials);
 }
 
@@ -58,7 +59,5 @@ pub fn put_polynomial(slots: &mut [i64], i: u16, monomials: &[i64])
 pub fn clear(slots: &mut [i64])
     ensures { (n : ℕ) → AllHold n slots.new }
 {
-    for cell in slots.iter_mut() {
-        *cell = 0;
-    }
+    slots.fill(0);
 }

@@ -13,8 +13,7 @@ ghost use Rattle.table_machine.specs.Told.{known_of, told_by, front_terms, leadi
 use crate::equality::same_signed;
 use field::sign::Sign;
 use packed::stretch::Stretch;
-use stacks::arrays::fact_at;
-use stacks::cells::sign_of;
+use stacks::arrays::read;
 use stacks::marks::Fact;
 use stacks::slots::view_at;
 
@@ -50,7 +49,7 @@ fn number_sign(number: Stretch) -> Sign
     if number.len() == 0 {
         return Sign::Zero;
     }
-    sign_of(number.coefficient(0))
+    Sign::of(number.coefficient(0))
 }
 
 // What the first `len` facts tell, the newest first.
@@ -69,7 +68,7 @@ fn among_facts(
     let leading = leading_at(slots, others, slot, count);
     let mut i = len;
     while i > 0 {
-        let sign = told(slots, leading, fact_at(facts, i - 1), others);
+        let sign = told(slots, leading, read(facts, i - 1), others);
         if sign.is_some() {
             return sign;
         }

@@ -13,7 +13,7 @@ use crate::arrays::{Arrays, Facing};
 use crate::facts::known_sign;
 use field::sign::Sign;
 use question::tree::Tree;
-use stacks::arrays::{put_fact, put_left, put_question, question_at};
+use stacks::arrays::{read, write};
 use stacks::marks::{Branch, Fact, Left, Marks, Question};
 use stacks::slots::count_at;
 
@@ -68,7 +68,7 @@ impl Arrays<'_> {
         ensures rest { cells_of self.new ≡ rewritten (cells_of self.old) self.new.lefts.now self.old.facts.now self.old.questions.now }
         ensures long { length self.new.lefts.now ≡ length self.old.lefts.now }
     {
-        put_left(
+        write(
             self.lefts,
             marks.base + marks.done,
             Left {
@@ -82,7 +82,7 @@ impl Arrays<'_> {
     fn question(&self, i: u16) -> Question
         ensures { result ≡ question_in self.now.questions.now i }
     {
-        question_at(self.questions, i)
+        read(self.questions, i)
     }
 
     // A branch of a question is explored: what it assumes of the sign becomes a fact.
@@ -95,13 +95,13 @@ impl Arrays<'_> {
         ensures { Explores others (cells_of self.old) question.marks i question.branch sign (cells_of self.new) result }
     {
         let marks = question.marks;
-        put_question(self.questions, i, question);
+        write(self.questions, i, question);
         let fact = Fact {
             slot: marks.base + marks.done,
             count: marks.count,
             sign,
         };
-        put_fact(self.facts, marks.facts, fact);
+        write(self.facts, marks.facts, fact);
         self.settle(others, with_fact(marks), sign)
     }
 

@@ -13,7 +13,7 @@ ghost use Rattle.table_machine.specs.Foreseeing.{Foresees};
 
 use crate::arrays::{Arrays, Outlook, Top};
 use packed::view::View;
-use stacks::arrays::left_at;
+use stacks::arrays::read;
 use stacks::marks::{Left, Marks};
 use stacks::slots::view_at;
 
@@ -25,7 +25,7 @@ impl Arrays<'_> {
     fn left(&self, slot: u16) -> Left
         ensures { result ≡ left_in self.now.lefts.now slot }
     {
-        left_at(self.lefts, slot)
+        read(self.lefts, slot)
     }
 
     // The first real polynomial of the table from a place on; the end if there is none.

@@ -14,7 +14,7 @@ ghost use Rattle.table_machine.specs.Cells.{cells_of, rewritten};
 use crate::arrays::Arrays;
 use field::sign::Sign;
 use packed::view::View;
-use stacks::arrays::put_left;
+use stacks::arrays::write;
 use stacks::marks::{Left, Marks};
 use stacks::slots::{count_at, view_at};
 
@@ -105,7 +105,7 @@ impl Arrays<'_> {
             return self.shorter(others, marks);
         }
         let left = self.left_of(others, marks, sign);
-        put_left(self.lefts, marks.base + marks.done, left);
+        write(self.lefts, marks.base + marks.done, left);
         self.next(marks)
     }
 }

@@ -11,14 +11,14 @@ pub returns-then-is_some : goal.returns-then-is_some
 returns-then-is_some c =
     let l : 0 < c.loop-i.i = omega arith in
     let e = fact-told c.args.others c.args.slots.now c.args.slot c.args.count c.loop-i.i (fact_in c.args.facts.now) _ _ c.told-sign.result c.requires.hold l
-    c.fact_at.ensures c.leading_at-leading.ensures c.told-sign.ensures in
+    c.read.ensures c.leading_at-leading.ensures c.told-sign.ensures in
     fact_found c.told-sign.result _ _ (sym c.if-is_some.ensures) e ∙ c.loop-i.invariant
 
 pub loop-i-preserved : goal.loop-i-preserved
 loop-i-preserved c =
     let l : 0 < c.loop-i.i = omega arith in
     let e = fact-told c.args.others c.args.slots.now c.args.slot c.args.count c.loop-i.i (fact_in c.args.facts.now) _ _ c.told-sign.result c.requires.hold l
-    c.fact_at.ensures c.leading_at-leading.ensures c.told-sign.ensures in
+    c.read.ensures c.leading_at-leading.ensures c.told-sign.ensures in
     fact-passed c.told-sign.result _ _ (sym c.if-is_some.ensures) e ∙ c.loop-i.invariant
 
 pub returns : goal.returns

@@ -15,7 +15,7 @@ pub returns : goal.returns
 returns c =
     record {
       settles = settles-passed c.args.others (cells_of c.args.self.now) c.args.marks c.args.sign _ _ _ c.requires.hold (sym c.if-is_zero.ensures) c.left_of-left.ensures
-          c.put_left.ensures c.next.ensures;
+          c.write.ensures c.next.ensures;
       rest = search rules;
       long = search rules;
     }
