@@ -1,18 +1,19 @@
 -- Steps of a reader on a text: what was looked at, what was chosen, what was read.
-use Rattle.std.proofs.Common.{◌≡◌, ℕ, zero, suc, ◌-◌, Bool, true, false, cond, List, ◌++◌, ℤ, IsErrAnd, Ok, Err, Result, sym, refl, ap, ◌∙◌, append_assoc, arith}
+use Rattle.std.proofs.Common.{◌≡◌, ℕ, zero, suc, ◌-◌, Bool, true, false, cond, List, ◌++◌, ℤ, IsErrAnd, Some, None, Ok, Err, Option, Result, sym, refl, ap, ◌∙◌, append_assoc, arith}
+use Rattle.std.specs.Option.{ok_or}
+use Rattle.field.specs.Sentence.{Term}
 use Rattle.grammar.specs.declared.fault.Fault.{Fault}
 use Rattle.grammar.specs.declared.fault.Fault.TheVariants.{Unfit, Deep}
 use Rattle.grammar.specs.declared.word.Word.{Word}
 use Rattle.grammar.specs.Formulas.{claimed, atom, equivalence}
+use Rattle.grammar.specs.Meaning.{term_words}
 use Rattle.grammar.specs.Nesting.{nest}
 use Rattle.grammar.specs.Reader.{Reader, Give, Refuse, Outcome, Refused, Read, refusal_at, ◌>>=◌, run}
 use Rattle.grammar.specs.Terms.{Claim, Piece, OfTerm, OfClaim, product, sum}
 use Rattle.grammar.proofs.Runs.{goes_on, stops}
-use Rattle.text.specs.declared.piece.Piece.{Piece as Kind}
-use Rattle.text.specs.declared.piece.Piece.TheVariants.{Term as IsTerm, Claim as IsClaim}
+use Rattle.text.specs.declared.claim.Claim.{Claim as ReadClaim}
 use Rattle.text.specs.declared.sheet.Sheet.{Sheet}
 use Rattle.text.specs.Claims.{ClaimShown, PieceShown}
-use Rattle.text.specs.Piece.{claim_of}
 use Rattle.text.specs.Outcome.{outcome_of}
 use Rattle.text.specs.Reads.{ReadAs}
 use Rattle.text.specs.Sheet.{Holds}
@@ -93,19 +94,25 @@ unfolding nest
 deeper_formula names zero n = absurd (n refl)
 deeper_formula names (suc d) n = let e : suc d - 1 ≡ d = omega arith in ap (λ k. equivalence names (nest names k)) (sym e)
 
--- where a formula must stand
-pub claims : (after : Sheet) (xs : List ℤ) (a : Piece) (k : Kind) (b : Bool) (text : List ℕ) (i : ℕ) → PieceShown after xs a k → claim_of k ≡ Ok b →
-    (p : Claim) × (run (claimed a) text i ≡ Read p i) × ClaimShown after xs p b
+-- where a formula must stand, and where a term may stand too
+pub claims : (after : Sheet) (xs : List ℤ) (a : Piece) (o : Option ReadClaim) (c : ReadClaim) (text : List ℕ) (i : ℕ) → PieceShown after xs a o → o ≡ Some c →
+    (p : Claim) × (a ≡ OfClaim p) × (run (claimed a) text i ≡ Read p i) × ClaimShown after xs p c
 unfolding claimed run
-claims after xs (OfTerm t) IsTerm b text i h e = let z : ◌≡◌ {A = ℕ} 0 1 = cc in absurd (omega arith)
-claims after xs (OfTerm t) (IsClaim c) b text i h e = absurd h
-claims after xs (OfClaim p) IsTerm b text i h e = absurd h
-claims after xs (OfClaim p) (IsClaim c) b text i h e = let same : c ≡ b = cc in (p, refl, (h.0 ∙ same, h.1))
+claims after xs (OfTerm t) None c text i h e = let z : ◌≡◌ {A = ℕ} 0 1 = cc in absurd (omega arith)
+claims after xs (OfTerm t) (Some d) c text i h e = absurd h
+claims after xs (OfClaim p) None c text i h e = absurd h
+claims after xs (OfClaim p) (Some d) c text i h e = let same : d.arrow ≡ c.arrow = cc in (p, refl, refl, (h.0 ∙ same, h.1))
 
-pub no_claim : (after : Sheet) (xs : List ℤ) (a : Piece) (k : Kind) (f : Fault) (text : List ℕ) (i : ℕ) → PieceShown after xs a k → claim_of k ≡ Err f →
+pub term_stands : (after : Sheet) (xs : List ℤ) (a : Piece) (o : Option ReadClaim) → PieceShown after xs a o → o ≡ None → (t : Term) × (a ≡ OfTerm t) × Holds after (xs ++ term_words t)
+term_stands after xs (OfTerm t) None h e = (t, refl, h)
+term_stands after xs (OfTerm t) (Some c) h e = absurd h
+term_stands after xs (OfClaim p) None h e = absurd h
+term_stands after xs (OfClaim p) (Some c) h e = let z : ◌≡◌ {A = ℕ} 0 1 = cc in absurd (omega arith)
+
+pub no_claim : (after : Sheet) (xs : List ℤ) (a : Piece) (o : Option ReadClaim) (f : Fault) (text : List ℕ) (i : ℕ) → PieceShown after xs a o → Err f ≡ ok_or o Unfit →
     run (claimed a) text i ≡ Refused (refusal_at f i)
 unfolding claimed run
-no_claim after xs (OfTerm t) IsTerm f text i h e = let same : Unfit ≡ f = cc in ap (λ g. Refused (refusal_at g i)) same
-no_claim after xs (OfTerm t) (IsClaim c) f text i h e = absurd h
-no_claim after xs (OfClaim p) IsTerm f text i h e = absurd h
-no_claim after xs (OfClaim p) (IsClaim c) f text i h e = let z : ◌≡◌ {A = ℕ} 0 1 = cc in absurd (omega arith)
+no_claim after xs (OfTerm t) None f text i h e = let same : Unfit ≡ f = cc in ap (λ g. Refused (refusal_at g i)) same
+no_claim after xs (OfTerm t) (Some c) f text i h e = absurd h
+no_claim after xs (OfClaim p) None f text i h e = absurd h
+no_claim after xs (OfClaim p) (Some c) f text i h e = let z : ◌≡◌ {A = ℕ} 0 1 = cc in absurd (omega arith)

@@ -3,7 +3,9 @@ use Rattle.std.specs.Prelude.{◌≡◌, ℕ, zero, suc, ◌≤◌, min, List, [
 use Rattle.field.specs.Sentence.{Term, Formula}
 use Rattle.grammar.specs.declared.relation.Relation.{Relation}
 use Rattle.grammar.specs.Meaning.{difference, power, compared, equivalent, term_words, formula_words}
+use Rattle.text.specs.declared.row.Row.{Row}
 use Rattle.text.specs.declared.sheet.Sheet.{Sheet}
+use Rattle.text.specs.Row.{join_of}
 
 -- these words, or, past the capacity, that they are too many
 pub record Holds (s : Sheet) (words : List ℤ) : Type 0 where
@@ -75,3 +77,8 @@ abbrev pub Equates : ℕ → ℕ → Sheet → Sheet → Type 0
 Equates from middle before after =
     (xs : List ℤ) (p q : Formula) → Behind xs from → Behind (xs ++ formula_words p) middle → Holds before (xs ++ (formula_words p ++ formula_words q)) →
     Holds after (xs ++ formula_words (equivalent p q))
+
+abbrev pub Joins : Row → ℕ → ℕ → Sheet → Sheet → Type 0
+Joins row from middle before after =
+    (xs : List ℤ) (p q : Formula) → Behind xs from → Behind (xs ++ formula_words p) middle → Holds before (xs ++ (formula_words p ++ formula_words q)) →
+    Holds after (xs ++ formula_words (join_of row p q))

@@ -1,16 +1,15 @@
 // Formulas, a method for each level of binding; a term stands for itself until a sign of comparison makes it one.
-ghost use Rattle.std.specs.Prelude.{◌≡◌, codes, slice_index};
-ghost use Rattle.field.specs.Sentence.{And, Or};
-ghost use Rattle.grammar.specs.Formulas.{begins_relation, relation_of, or_equal, comparison_of, from_product, from_primary, denied, from_word, enclosed, atom_of, atom, row_next, row_for, conjunction, disjunction, arrow_behind, chain_next, chained, implication, equivalence};
-ghost use Rattle.grammar.specs.Meaning.{equivalent};
+ghost use Rattle.std.specs.Prelude.{◌≡◌, slice_index};
+ghost use Rattle.grammar.specs.Formulas.{begins_relation, relation_of, or_equal, comparison_of, from_product, from_primary, denied, from_word, enclosed, atom_of, row_next, row_for, disjunction, arrow_behind, chain_next, chained, implication};
 ghost use Rattle.grammar.specs.Nesting.{nest};
 ghost use Rattle.grammar.specs.Reader.{run};
-ghost use Rattle.grammar.specs.Tokens.{sign, keyword};
 ghost use Rattle.text.specs.Claims.{WritesPiece, ExtendsPiece, ExtendsClaim, NextClaim, ArrowNext, ExtendsChain};
 ghost use Rattle.text.specs.Outcome.{outcome_of};
+ghost use Rattle.text.specs.Row.{first_of, between_of, join_of, operand_of, row_of};
 
 use crate::character::is_letter;
-use crate::piece::{Piece, claimed};
+use crate::claim::Claim;
+use crate::row::Row;
 use crate::sheet::Sheet;
 use crate::source::{LONGEST, Source};
 use crate::term::is_word;
@@ -65,17 +64,17 @@ impl Source<'_> {
         sheet: &mut Sheet,
         depth: usize,
         from: usize,
-    ) -> Result<Piece, Fault>
+    ) -> Result<Option<Claim>, Fault>
         ensures { ExtendsPiece (λ t. run (comparison_of self.now.names.now (nest self.now.names.now depth) t (slice_index self.now.text.now at.old)) self.now.text.now at.old) result at.new from sheet.old sheet.new }
     {
         if !begins_relation(self.front(*at)) {
-            return Ok(Piece::Term);
+            return Ok(None);
         }
         let relation = self.relation(at)?;
         let middle = sheet.count;
         let arrow = self.sum(at, sheet, depth, true)?;
         sheet.compare(relation, from, middle);
-        Ok(Piece::Claim(arrow))
+        Ok(Some(Claim { arrow }))
     }
 
     // A term goes on as a sum, which may be compared.
@@ -85,7 +84,7 @@ impl Source<'_> {
         sheet: &mut Sheet,
         depth: usize,
         from: usize,
-    ) -> Result<Piece, Fault>
+    ) -> Result<Option<Claim>, Fault>
         ensures { ExtendsPiece (λ t. run (from_product self.now.names.now (nest self.now.names.now depth) t) self.now.text.now at.old) result at.new from sheet.old sheet.new }
     {
         self.plus(at, sheet, depth, false, from)?;
@@ -98,7 +97,7 @@ impl Source<'_> {
         sheet: &mut Sheet,
         depth: usize,
         from: usize,
-    ) -> Result<Piece, Fault>
+    ) -> Result<Option<Claim>, Fault>
         ensures { ExtendsPiece (λ t. run (from_primary self.now.names.now (nest self.now.names.now depth) t) self.now.text.now at.old) result at.new from sheet.old sheet.new }
     {
         self.raised(at, sheet, from)?;
@@ -108,7 +107,12 @@ impl Source<'_> {
 
     // What `not` denies.
     #[cycle(formula_levels)]
-    fn denied(&self, at: &mut usize, sheet: &mut Sheet, depth: usize) -> Result<Piece, Fault>
+    fn denied(
+        &self,
+        at: &mut usize,
+        sheet: &mut Sheet,
+        depth: usize,
+    ) -> Result<Option<Claim>, Fault>
         ensures { WritesPiece (run (denied (nest self.now.names.now depth)) self.now.text.now at.old) result at.new sheet.old sheet.new }
     {
         self.blanks(at);
@@ -116,10 +120,9 @@ impl Source<'_> {
             return Err(Fault::Deep);
         }
         let from = sheet.count;
-        let piece = self.atom(at, sheet, depth - 1)?;
-        let arrow = claimed(piece)?;
+        let claim = self.atom(at, sheet, depth - 1)?.ok_or(Fault::Unfit)?;
         sheet.insert(from, 3);
-        Ok(Piece::Claim(arrow))
+        Ok(Some(claim))
     }
 
     // `not` with what it denies, or a name.
@@ -130,7 +133,7 @@ impl Source<'_> {
         sheet: &mut Sheet,
         depth: usize,
         word: Word,
-    ) -> Result<Piece, Fault>
+    ) -> Result<Option<Claim>, Fault>
         ensures { WritesPiece (run (from_word self.now.names.now (nest self.now.names.now depth) word) self.now.text.now at.old) result at.new sheet.old sheet.new }
     {
         if is_word(word, b"not\0\0\0\0\0") {
@@ -143,7 +146,12 @@ impl Source<'_> {
 
     // A formula in parentheses, or a term that begins with one.
     #[cycle(formula_levels)]
-    fn enclosed(&self, at: &mut usize, sheet: &mut Sheet, depth: usize) -> Result<Piece, Fault>
+    fn enclosed(
+        &self,
+        at: &mut usize,
+        sheet: &mut Sheet,
+        depth: usize,
+    ) -> Result<Option<Claim>, Fault>
         ensures { WritesPiece (run (enclosed self.now.names.now (nest self.now.names.now depth)) self.now.text.now at.old) result at.new sheet.old sheet.new }
     {
         let from = sheet.count;
@@ -151,17 +159,22 @@ impl Source<'_> {
         if depth == 0 {
             return Err(Fault::Deep);
         }
-        let piece = self.equivalence(at, sheet, depth - 1)?;
+        let piece = self.row(at, sheet, depth - 1, Row::Equivalence)?;
         self.sign(at, b")")?;
         match piece {
-            Piece::Term => self.from_primary(at, sheet, depth, from),
-            Piece::Claim(arrow) => Ok(Piece::Claim(arrow)),
+            None => self.from_primary(at, sheet, depth, from),
+            Some(claim) => Ok(Some(claim)),
         }
     }
 
     // What `and` joins, or a term.
     #[cycle(formula_levels)]
-    pub fn atom(&self, at: &mut usize, sheet: &mut Sheet, depth: usize) -> Result<Piece, Fault>
+    pub fn atom(
+        &self,
+        at: &mut usize,
+        sheet: &mut Sheet,
+        depth: usize,
+    ) -> Result<Option<Claim>, Fault>
         ensures { WritesPiece (run (atom_of self.now.names.now (nest self.now.names.now depth) (slice_index self.now.text.now at.old)) self.now.text.now at.old) result at.new sheet.old sheet.new }
     {
         let from = sheet.count;
@@ -181,127 +194,100 @@ impl Source<'_> {
         self.from_primary(at, sheet, depth, from)
     }
 
-    // A formula more, behind `and`.
-    #[cycle(formula_levels)]
-    fn and_next(
-        &self,
-        at: &mut usize,
-        sheet: &mut Sheet,
-        depth: usize,
-        from: usize,
-    ) -> Result<bool, Fault>
-        ensures { NextClaim (λ p. run (row_next (keyword (codes "and")) And (atom self.now.names.now (nest self.now.names.now depth)) p) self.now.text.now at.old) result at.new from sheet.old sheet.new }
+    // What joins a row.
+    fn between(&self, at: &mut usize, row: Row) -> Result<(), Fault>
+        ensures { run (between_of row) self.now.text.now at.old ≡ outcome_of result at.new }
     {
-        self.keyword(at, b"and")?;
-        let piece = self.atom(at, sheet, depth)?;
-        let arrow = claimed(piece)?;
-        sheet.insert(from, 4);
-        Ok(arrow)
+        match row {
+            Row::Conjunction => self.keyword(at, b"and"),
+            Row::Disjunction => self.keyword(at, b"or"),
+            Row::Equivalence => self.sign(at, b"<->"),
+        }
     }
 
-    // The formulas behind a first one, joined by `and`.
+    // A formula of the level below a row, or a term.
     #[cycle(formula_levels)]
-    fn conjoined(
+    fn operand(
         &self,
         at: &mut usize,
         sheet: &mut Sheet,
         depth: usize,
+        row: Row,
+    ) -> Result<Option<Claim>, Fault>
+        ensures { WritesPiece (run (operand_of row self.now.names.now (nest self.now.names.now depth)) self.now.text.now at.old) result at.new sheet.old sheet.new }
+    {
+        match row {
+            Row::Conjunction => self.atom(at, sheet, depth),
+            Row::Disjunction => self.row(at, sheet, depth, Row::Conjunction),
+            Row::Equivalence => self.implication(at, sheet, depth),
+        }
+    }
+
+    // A formula more of a row.
+    #[cycle(formula_levels)]
+    fn row_next(
+        &self,
+        at: &mut usize,
+        sheet: &mut Sheet,
+        depth: usize,
+        row: Row,
         from: usize,
-        mut arrow: bool,
-    ) -> Result<bool, Fault>
-        ensures { ExtendsClaim (λ p. run (row_for 65536 97 (keyword (codes "and")) And (atom self.now.names.now (nest self.now.names.now depth)) p) self.now.text.now at.old) arrow result at.new from sheet.old sheet.new }
+    ) -> Result<Claim, Fault>
+        ensures { NextClaim (λ p. run (row_next (between_of row) (join_of row) (operand_of row self.now.names.now (nest self.now.names.now depth)) p) self.now.text.now at.old) result at.new from sheet.old sheet.new }
+    {
+        self.between(at, row)?;
+        let middle = sheet.count;
+        let claim = self.operand(at, sheet, depth, row)?.ok_or(Fault::Unfit)?;
+        sheet.join(row, from, middle);
+        Ok(claim)
+    }
+
+    // The formulas of a row behind its first one.
+    #[cycle(formula_levels)]
+    fn row_on(
+        &self,
+        at: &mut usize,
+        sheet: &mut Sheet,
+        depth: usize,
+        row: Row,
+        from: usize,
+        mut claim: Claim,
+    ) -> Result<Claim, Fault>
+        ensures { ExtendsClaim (λ p. run (row_for 65536 (first_of row) (between_of row) (join_of row) (operand_of row self.now.names.now (nest self.now.names.now depth)) p) self.now.text.now at.old) claim result at.new from sheet.old sheet.new }
     {
         for _turn in 0..LONGEST {
-            if arrow || self.front(*at) != b'a' {
-                return Ok(arrow);
+            if claim.arrow || self.front(*at) != row.first() {
+                return Ok(claim);
             }
-            arrow = self.and_next(at, sheet, depth, from)?;
+            claim = self.row_next(at, sheet, depth, row, from)?;
         }
-        Ok(arrow)
+        Ok(claim)
     }
 
+    // A row of formulas, or a term.
     #[cycle(formula_levels)]
-    pub fn conjunction(
+    pub fn row(
         &self,
         at: &mut usize,
         sheet: &mut Sheet,
         depth: usize,
-    ) -> Result<Piece, Fault>
-        ensures { WritesPiece (run (conjunction self.now.names.now (nest self.now.names.now depth)) self.now.text.now at.old) result at.new sheet.old sheet.new }
+        row: Row,
+    ) -> Result<Option<Claim>, Fault>
+        ensures { WritesPiece (run (row_of row self.now.names.now (nest self.now.names.now depth)) self.now.text.now at.old) result at.new sheet.old sheet.new }
     {
         let from = sheet.count;
-        match self.atom(at, sheet, depth)? {
-            Piece::Term => Ok(Piece::Term),
-            Piece::Claim(arrow) => {
-                let arrow = self.conjoined(at, sheet, depth, from, arrow)?;
-                Ok(Piece::Claim(arrow))
-            }
-        }
-    }
-
-    // A formula more, behind `or`.
-    #[cycle(formula_levels)]
-    fn or_next(
-        &self,
-        at: &mut usize,
-        sheet: &mut Sheet,
-        depth: usize,
-        from: usize,
-    ) -> Result<bool, Fault>
-        ensures { NextClaim (λ p. run (row_next (keyword (codes "or")) Or (conjunction self.now.names.now (nest self.now.names.now depth)) p) self.now.text.now at.old) result at.new from sheet.old sheet.new }
-    {
-        self.keyword(at, b"or")?;
-        let piece = self.conjunction(at, sheet, depth)?;
-        let arrow = claimed(piece)?;
-        sheet.insert(from, 5);
-        Ok(arrow)
-    }
-
-    // The formulas behind a first one, joined by `or`.
-    #[cycle(formula_levels)]
-    fn disjoined(
-        &self,
-        at: &mut usize,
-        sheet: &mut Sheet,
-        depth: usize,
-        from: usize,
-        mut arrow: bool,
-    ) -> Result<bool, Fault>
-        ensures { ExtendsClaim (λ p. run (row_for 65536 111 (keyword (codes "or")) Or (conjunction self.now.names.now (nest self.now.names.now depth)) p) self.now.text.now at.old) arrow result at.new from sheet.old sheet.new }
-    {
-        for _turn in 0..LONGEST {
-            if arrow || self.front(*at) != b'o' {
-                return Ok(arrow);
-            }
-            arrow = self.or_next(at, sheet, depth, from)?;
-        }
-        Ok(arrow)
-    }
-
-    #[cycle(formula_levels)]
-    pub fn disjunction(
-        &self,
-        at: &mut usize,
-        sheet: &mut Sheet,
-        depth: usize,
-    ) -> Result<Piece, Fault>
-        ensures { WritesPiece (run (disjunction self.now.names.now (nest self.now.names.now depth)) self.now.text.now at.old) result at.new sheet.old sheet.new }
-    {
-        let from = sheet.count;
-        match self.conjunction(at, sheet, depth)? {
-            Piece::Term => Ok(Piece::Term),
-            Piece::Claim(arrow) => {
-                let arrow = self.disjoined(at, sheet, depth, from, arrow)?;
-                Ok(Piece::Claim(arrow))
-            }
-        }
+        let Some(first) = self.operand(at, sheet, depth, row)? else {
+            return Ok(None);
+        };
+        let last = self.row_on(at, sheet, depth, row, from, first)?;
+        Ok(Some(last))
     }
 
     // The arrow behind a formula, if it hasn't been read.
-    fn arrow_behind(&self, at: &mut usize, arrow: bool) -> Result<(), Fault>
-        ensures { run (arrow_behind arrow) self.now.text.now at.old ≡ outcome_of result at.new }
+    fn arrow_behind(&self, at: &mut usize, claim: Claim) -> Result<(), Fault>
+        ensures { run (arrow_behind claim.arrow) self.now.text.now at.old ≡ outcome_of result at.new }
     {
-        if arrow {
+        if claim.arrow {
             return Ok(());
         }
         self.sign(at, b"->")
@@ -314,14 +300,13 @@ impl Source<'_> {
         at: &mut usize,
         sheet: &mut Sheet,
         depth: usize,
-        arrow: bool,
-    ) -> Result<bool, Fault>
-        ensures { ArrowNext (λ s. run (chain_next (disjunction self.now.names.now (nest self.now.names.now depth)) s) self.now.text.now at.old) arrow result at.new sheet.old sheet.new }
+        claim: Claim,
+    ) -> Result<Claim, Fault>
+        ensures { ArrowNext (λ s. run (chain_next (disjunction self.now.names.now (nest self.now.names.now depth)) s) self.now.text.now at.old) claim result at.new sheet.old sheet.new }
     {
-        self.arrow_behind(at, arrow)?;
-        let piece = self.disjunction(at, sheet, depth)?;
-        let arrow = claimed(piece)?;
-        Ok(arrow)
+        self.arrow_behind(at, claim)?;
+        self.row(at, sheet, depth, Row::Disjunction)?
+            .ok_or(Fault::Unfit)
     }
 
     // The formulas behind a first one, joined by arrows.
@@ -332,17 +317,17 @@ impl Source<'_> {
         sheet: &mut Sheet,
         depth: usize,
         mut from: usize,
-        mut arrow: bool,
+        mut claim: Claim,
     ) -> Result<(), Fault>
-        ensures { ExtendsChain (λ p. run (chained (disjunction self.now.names.now (nest self.now.names.now depth)) p) self.now.text.now at.old) arrow result at.new from sheet.old sheet.new }
+        ensures { ExtendsChain (λ p. run (chained (disjunction self.now.names.now (nest self.now.names.now depth)) p) self.now.text.now at.old) claim result at.new from sheet.old sheet.new }
     {
         for _turn in 0..LONGEST {
-            if !arrow && self.front(*at) != b'-' {
+            if !claim.arrow && self.front(*at) != b'-' {
                 return Ok(());
             }
             sheet.imply(from);
             from = sheet.count;
-            arrow = self.arrow_next(at, sheet, depth, arrow)?;
+            claim = self.arrow_next(at, sheet, depth, claim)?;
         }
         Ok(())
     }
@@ -353,75 +338,14 @@ impl Source<'_> {
         at: &mut usize,
         sheet: &mut Sheet,
         depth: usize,
-    ) -> Result<Piece, Fault>
+    ) -> Result<Option<Claim>, Fault>
         ensures { WritesPiece (run (implication self.now.names.now (nest self.now.names.now depth)) self.now.text.now at.old) result at.new sheet.old sheet.new }
     {
         let from = sheet.count;
-        match self.disjunction(at, sheet, depth)? {
-            Piece::Term => Ok(Piece::Term),
-            Piece::Claim(arrow) => {
-                self.chained(at, sheet, depth, from, arrow)?;
-                Ok(Piece::Claim(false))
-            }
-        }
-    }
-
-    // A formula more, behind `<->`.
-    #[cycle(formula_levels)]
-    fn same_next(
-        &self,
-        at: &mut usize,
-        sheet: &mut Sheet,
-        depth: usize,
-        from: usize,
-    ) -> Result<bool, Fault>
-        ensures { NextClaim (λ p. run (row_next (sign (codes "<->")) equivalent (implication self.now.names.now (nest self.now.names.now depth)) p) self.now.text.now at.old) result at.new from sheet.old sheet.new }
-    {
-        self.sign(at, b"<->")?;
-        let middle = sheet.count;
-        let piece = self.implication(at, sheet, depth)?;
-        let arrow = claimed(piece)?;
-        sheet.equate(from, middle);
-        Ok(arrow)
-    }
-
-    // The formulas behind a first one, joined by `<->`.
-    #[cycle(formula_levels)]
-    fn equated(
-        &self,
-        at: &mut usize,
-        sheet: &mut Sheet,
-        depth: usize,
-        from: usize,
-        mut arrow: bool,
-    ) -> Result<bool, Fault>
-        ensures { ExtendsClaim (λ p. run (row_for 65536 60 (sign (codes "<->")) equivalent (implication self.now.names.now (nest self.now.names.now depth)) p) self.now.text.now at.old) arrow result at.new from sheet.old sheet.new }
-    {
-        for _turn in 0..LONGEST {
-            if arrow || self.front(*at) != b'<' {
-                return Ok(arrow);
-            }
-            arrow = self.same_next(at, sheet, depth, from)?;
-        }
-        Ok(arrow)
-    }
-
-    #[cycle(formula_levels)]
-    pub fn equivalence(
-        &self,
-        at: &mut usize,
-        sheet: &mut Sheet,
-        depth: usize,
-    ) -> Result<Piece, Fault>
-        ensures { WritesPiece (run (equivalence self.now.names.now (nest self.now.names.now depth)) self.now.text.now at.old) result at.new sheet.old sheet.new }
-    {
-        let from = sheet.count;
-        match self.implication(at, sheet, depth)? {
-            Piece::Term => Ok(Piece::Term),
-            Piece::Claim(arrow) => {
-                let arrow = self.equated(at, sheet, depth, from, arrow)?;
-                Ok(Piece::Claim(arrow))
-            }
-        }
+        let Some(first) = self.row(at, sheet, depth, Row::Disjunction)? else {
+            return Ok(None);
+        };
+        self.chained(at, sheet, depth, from, first)?;
+        Ok(Some(Claim { arrow: false }))
     }
 }

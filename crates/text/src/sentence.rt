@@ -4,8 +4,8 @@ ghost use Rattle.grammar.specs.Reader.{run};
 ghost use Rattle.grammar.specs.Text.{sentence};
 ghost use Rattle.text.specs.Sentence.{Announces, WritesSentence, word_of};
 
-use crate::piece::claimed;
 use crate::prefix::{Prefix, quantifiers};
+use crate::row::Row;
 use crate::sheet::Sheet;
 use crate::source::Source;
 use grammar::fault::Fault;
@@ -43,7 +43,7 @@ pub fn sentence(text: &[u8], at: &mut usize, sheet: &mut Sheet) -> Result<(), Fa
         text,
         names: &prefix.names[0..prefix.count],
     };
-    let piece = source.equivalence(at, sheet, DEEPEST)?;
-    claimed(piece)?;
+    let claim = source.row(at, sheet, DEEPEST, Row::Equivalence)?;
+    claim.ok_or(Fault::Unfit)?;
     Ok(())
 }

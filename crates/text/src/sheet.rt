@@ -1,7 +1,8 @@
 // Words as they are written, as many as a sentence may have; of more it is only known that they are too many.
 ghost use Rattle.std.specs.Prelude.{◌≡◌, ◌+◌, ◌≤◌, min};
-ghost use Rattle.text.specs.Sheet.{Puts, Inserts, Negates, Repeats, Copies, Multiplies, Raises, Exchanges, Compares, Subtracts, SubtractsFrom, Implies, Equates};
+ghost use Rattle.text.specs.Sheet.{Puts, Inserts, Negates, Repeats, Copies, Multiplies, Raises, Exchanges, Compares, Subtracts, SubtractsFrom, Implies, Equates, Joins};
 
+use crate::row::Row;
 use grammar::relation::Relation;
 
 // How many words a sentence may have.
@@ -166,7 +167,7 @@ impl Sheet {
     }
 
     // That the formula that begins at `from` and the one that begins at `middle` imply each other.
-    pub fn equate(&mut self, from: usize, middle: usize)
+    fn equate(&mut self, from: usize, middle: usize)
         ensures { Equates from middle self.old self.new }
     {
         let end = self.count;
@@ -176,5 +177,16 @@ impl Sheet {
         self.repeat(from, middle);
         self.imply(from);
         self.insert(from, 4);
+    }
+
+    // The formula that begins at `from` with the one that begins at `middle`.
+    pub fn join(&mut self, row: Row, from: usize, middle: usize)
+        ensures { Joins row from middle self.old self.new }
+    {
+        match row {
+            Row::Conjunction => self.insert(from, 4),
+            Row::Disjunction => self.insert(from, 5),
+            Row::Equivalence => self.equate(from, middle),
+        }
     }
 }
