@@ -20,7 +20,7 @@ use grammar::word::Word;
 pub fn begins_relation(c: u8) -> bool
     ensures { result ≡ begins_relation c }
 {
-    c == b'<' || c == b'>' || c == b'=' || c == b'!'
+    matches!(c, b'<' | b'>' | b'=' | b'!')
 }
 
 impl Source<'_> {
@@ -40,21 +40,24 @@ impl Source<'_> {
     fn relation(&self, at: &mut usize) -> Result<Relation, Fault>
         ensures { run (relation_of (slice_index self.now.text.now at.old)) self.now.text.now at.old ≡ outcome_of result at.new }
     {
-        let c = self.front(*at);
-        if c == b'<' {
-            self.pass(at);
-            return self.or_equal(at, Relation::Below, Relation::AtMost);
+        match self.front(*at) {
+            b'<' => {
+                self.pass(at);
+                self.or_equal(at, Relation::Below, Relation::AtMost)
+            }
+            b'>' => {
+                self.pass(at);
+                self.or_equal(at, Relation::Above, Relation::AtLeast)
+            }
+            b'=' => {
+                self.sign(at, b"=")?;
+                Ok(Relation::Equal)
+            }
+            _ => {
+                self.sign(at, b"!=")?;
+                Ok(Relation::Unequal)
+            }
         }
-        if c == b'>' {
-            self.pass(at);
-            return self.or_equal(at, Relation::Above, Relation::AtLeast);
-        }
-        if c == b'=' {
-            self.sign(at, b"=")?;
-            return Ok(Relation::Equal);
-        }
-        self.sign(at, b"!=")?;
-        Ok(Relation::Unequal)
     }
 
     // A term, or its comparison with another.

@@ -17,7 +17,7 @@ pub const DEEPEST: usize = 200;
 fn quantifier_word(every: bool) -> i64
     ensures { result ≡ word_of every }
 {
-    if every { 1 } else { 0 }
+    i64::from(every)
 }
 
 // How many quantifiers there are, and these.

@@ -26,11 +26,7 @@ impl Source<'_> {
     pub fn front(&self, at: usize) -> u8
         ensures { result ≡ slice_index self.now.text.now at }
     {
-        if at < self.text.len() {
-            self.text[at]
-        } else {
-            0
-        }
+        self.text.get(at).copied().unwrap_or(0)
     }
 
     pub fn pass(&self, at: &mut usize)
@@ -159,10 +155,5 @@ pub fn position(names: &[Word], word: Word) -> Option<usize>
     ensures value { result ≡ position names.now word }
     ensures within { elim result [ Some i ↦ i < length names.now | None ↦ Unit {0} ] }
 {
-    for (i, name) in names.iter().enumerate() {
-        if name.letters == word.letters {
-            return Some(i);
-        }
-    }
-    None
+    names.iter().position(|name| name.letters == word.letters)
 }
