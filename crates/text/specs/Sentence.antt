@@ -1,5 +1,5 @@
 -- What a sentence's answer says. Assumes nothing.
-use Rattle.std.specs.Prelude.{ℕ, Bool, [], ◌∷◌, map, take, ℤ, pos, Result}
+use Rattle.std.specs.Prelude.{ℕ, [], ◌∷◌, map, take, pos, Result}
 use Rattle.field.specs.Sentence.{Sentence}
 use Rattle.grammar.specs.declared.fault.Fault.{Fault}
 use Rattle.grammar.specs.Meaning.{quantifier_word, sentence_words}
@@ -8,9 +8,6 @@ use Rattle.text.specs.declared.prefix.Prefix.{Prefix}
 use Rattle.text.specs.declared.sheet.Sheet.{Sheet}
 use Rattle.text.specs.Reads.{ReadAs}
 use Rattle.text.specs.Sheet.{Holds}
-
-abbrev pub word_of : Bool → ℤ
-word_of = quantifier_word
 
 -- how many quantifiers there are, and these
 abbrev pub Announces : Prefix → Sheet → Sheet → Type 0

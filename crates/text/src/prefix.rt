@@ -54,12 +54,16 @@ impl Source<'_> {
     fn quantifier(&self, at: &mut usize) -> Result<bool, Fault>
         ensures { run (quantifier_of (slice_index self.now.text.now at.old)) self.now.text.now at.old ≡ outcome_of result at.new }
     {
-        if self.front(*at) == b'e' {
-            self.keyword(at, b"every")?;
-            return Ok(true);
+        match self.front(*at) {
+            b'e' => {
+                self.keyword(at, b"every")?;
+                Ok(true)
+            }
+            _ => {
+                self.keyword(at, b"some")?;
+                Ok(false)
+            }
         }
-        self.keyword(at, b"some")?;
-        Ok(false)
     }
 }
 

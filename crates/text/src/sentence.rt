@@ -1,8 +1,8 @@
 // Sentences: their quantifiers, then a formula about the names that are quantified.
-ghost use Rattle.std.specs.Prelude.{◌≡◌, ◌≤◌};
+ghost use Rattle.std.specs.Prelude.{◌≤◌};
 ghost use Rattle.grammar.specs.Reader.{run};
 ghost use Rattle.grammar.specs.Text.{sentence};
-ghost use Rattle.text.specs.Sentence.{Announces, WritesSentence, word_of};
+ghost use Rattle.text.specs.Sentence.{Announces, WritesSentence};
 
 use crate::prefix::{Prefix, quantifiers};
 use crate::row::Row;
@@ -13,21 +13,14 @@ use grammar::fault::Fault;
 // How deep a text may be nested.
 pub const DEEPEST: usize = 200;
 
-// The word of a quantifier.
-fn quantifier_word(every: bool) -> i64
-    ensures { result ≡ word_of every }
-{
-    i64::from(every)
-}
-
 // How many quantifiers there are, and these.
 fn announce(sheet: &mut Sheet, prefix: Prefix)
     requires { prefix.count ≤ 4 }
     ensures { Announces prefix sheet.old sheet.new }
 {
     sheet.put(prefix.count as i64);
-    for i in 0..prefix.count {
-        sheet.put(quantifier_word(prefix.every[i]));
+    for every in &prefix.every[..prefix.count] {
+        sheet.put(i64::from(*every));
     }
 }
 

@@ -93,20 +93,18 @@ impl Source<'_> {
     fn letters_on(&self, at: &mut usize) -> Word
         ensures { run letters_on self.now.text.now at.old ≡ Read result at.new }
     {
-        let mut word = Word {
-            letters: [0; 8],
-            length: 0,
-        };
-        for i in 0..8 {
+        let mut letters = [0; 8];
+        let mut length = 0;
+        for letter in &mut letters {
             let c = self.front(*at);
             if !is_letter(c) {
-                return word;
+                break;
             }
             self.pass(at);
-            word.letters[i] = c;
-            word.length = i + 1;
+            *letter = c;
+            length += 1;
         }
-        word
+        Word { letters, length }
     }
 
     // One to eight letters.

@@ -3,5 +3,5 @@ use Rattle.grammar.specs.Meaning.{quantifier_word}
 use Rattle.text.specs.Sheet.{Holds}
 use Rattle.text.proofs.sentence.announce.Given as goal
 
-abbrev pub invariant-loop-i : goal.invariant-loop-i
-invariant-loop-i l = Holds l.initial.sheet (pos l.prefix.count ∷ []) → Holds l.sheet (pos l.prefix.count ∷ map quantifier_word (take l.i l.prefix.every))
+abbrev pub invariant-loop-every : goal.invariant-loop-every
+invariant-loop-every l = Holds l.initial.sheet (pos l.fn.prefix.count ∷ []) → Holds l.sheet (pos l.fn.prefix.count ∷ map quantifier_word (take l.every-index l.every-items))
