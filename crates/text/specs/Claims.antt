@@ -4,11 +4,13 @@ use Rattle.field.specs.Sentence.{Term, Formula}
 use Rattle.grammar.specs.declared.fault.Fault.{Fault}
 use Rattle.grammar.specs.Formulas.{Chain}
 use Rattle.grammar.specs.Meaning.{term_words, formula_words}
-use Rattle.grammar.specs.Reader.{Outcome, Refused, Read, refusal_at}
+use Rattle.grammar.specs.Reader.{Reader, Outcome, Refused, Read, refusal_at, run}
 use Rattle.grammar.specs.Terms.{Claim, Piece, OfTerm, OfClaim}
 use Rattle.text.specs.declared.claim.Claim.{Claim as ReadClaim}
+use Rattle.text.specs.declared.draft.Draft.{Draft}
 use Rattle.text.specs.declared.sheet.Sheet.{Sheet}
-use Rattle.text.specs.Reads.{ReadAs}
+use Rattle.text.specs.declared.source.Source.{Source}
+use Rattle.text.specs.Reads.{DraftReads}
 use Rattle.text.specs.Sheet.{Holds, Behind}
 
 -- a formula's words behind others, and whether an arrow has been read
@@ -21,35 +23,37 @@ PieceShown after xs (OfTerm t) (Some c) = ⊥
 PieceShown after xs (OfClaim p) None = ⊥
 PieceShown after xs (OfClaim p) (Some c) = ClaimShown after xs p c
 
-abbrev pub WritesPiece : Outcome Piece → Result (Option ReadClaim) Fault → ℕ → Sheet → Sheet → Type 0
-WritesPiece o r at before after = (xs : List ℤ) → Holds before xs → ReadAs (PieceShown after xs) o r at
+abbrev pub WritesPiece : Source → Reader Piece → Result (Option ReadClaim) Fault → Draft → Draft → Type 0
+WritesPiece source reader r before after = (xs : List ℤ) → Holds before.sheet xs → DraftReads (PieceShown after.sheet xs) source reader r before after
 
 -- behind a term that begins at `from`
-abbrev pub ExtendsPiece : (Term → Outcome Piece) → Result (Option ReadClaim) Fault → ℕ → ℕ → Sheet → Sheet → Type 0
-ExtendsPiece go r at from before after =
-    (xs : List ℤ) (t : Term) → Behind xs from → Holds before (xs ++ term_words t) → ReadAs (PieceShown after xs) (go t) r at
+abbrev pub ExtendsPiece : Source → (Term → Reader Piece) → Result (Option ReadClaim) Fault → ℕ → Draft → Draft → Type 0
+ExtendsPiece source go r from before after =
+    (xs : List ℤ) (t : Term) → Behind xs from → Holds before.sheet (xs ++ term_words t) → DraftReads (PieceShown after.sheet xs) source (go t) r before after
 
 -- behind a formula that begins at `from`
-abbrev pub ExtendsClaim : (Claim → Outcome Claim) → ReadClaim → Result ReadClaim Fault → ℕ → ℕ → Sheet → Sheet → Type 0
-ExtendsClaim go c r at from before after =
-    (xs : List ℤ) (p : Claim) → Behind xs from → ClaimShown before xs p c → ReadAs (ClaimShown after xs) (go p) r at
+abbrev pub ExtendsClaim : Source → (Claim → Reader Claim) → ReadClaim → Result ReadClaim Fault → ℕ → Draft → Draft → Type 0
+ExtendsClaim source go c r from before after =
+    (xs : List ℤ) (p : Claim) → Behind xs from → ClaimShown before.sheet xs p c → DraftReads (ClaimShown after.sheet xs) source (go p) r before after
 
-abbrev pub NextClaim : (Claim → Outcome Claim) → Result ReadClaim Fault → ℕ → ℕ → Sheet → Sheet → Type 0
-NextClaim go r at from before after =
-    (xs : List ℤ) (p : Claim) → Behind xs from → Holds before (xs ++ formula_words p.formula) → ReadAs (ClaimShown after xs) (go p) r at
+abbrev pub NextClaim : Source → (Claim → Reader Claim) → Result ReadClaim Fault → ℕ → Draft → Draft → Type 0
+NextClaim source go r from before after =
+    (xs : List ℤ) (p : Claim) → Behind xs from → Holds before.sheet (xs ++ formula_words p.formula) → DraftReads (ClaimShown after.sheet xs) source (go p) r before after
 
 -- a formula behind an arrow, whose words come behind all others
 abbrev pub ChainReads : Chain → (Claim → ReadClaim → Type 0) → Outcome Chain → Result ReadClaim Fault → ℕ → Type 0
 ChainReads s shows o (Ok c) at = (q : Claim) × (o ≡ Read (record { before = s.last.formula ∷ s.before; last = q }) at) × shows q c
 ChainReads s shows o (Err f) at = o ≡ Refused (refusal_at f at)
 
-abbrev pub ArrowNext : (Chain → Outcome Chain) → ReadClaim → Result ReadClaim Fault → ℕ → Sheet → Sheet → Type 0
-ArrowNext go c r at before after =
-    (xs : List ℤ) (s : Chain) → s.last.arrow ≡ c.arrow → Holds before xs → ChainReads s (ClaimShown after xs) (go s) r at
+abbrev pub ArrowNext : Source → (Chain → Reader Chain) → ReadClaim → Result ReadClaim Fault → Draft → Draft → Type 0
+ArrowNext source go c r before after =
+    (xs : List ℤ) (s : Chain) → s.last.arrow ≡ c.arrow → Holds before.sheet xs →
+    ChainReads s (ClaimShown after.sheet xs) (run (go s) source.text.now before.at) r after.at
 
-abbrev pub ExtendsChain : (Claim → Outcome Claim) → ReadClaim → Result (Unit {0}) Fault → ℕ → ℕ → Sheet → Sheet → Type 0
-ExtendsChain go c r at from before after =
-    (xs : List ℤ) (p : Claim) → Behind xs from → ClaimShown before xs p c → ReadAs (λ q _. ClaimShown after xs q (record { arrow = false })) (go p) r at
+abbrev pub ExtendsChain : Source → (Claim → Reader Claim) → ReadClaim → Result (Unit {0}) Fault → ℕ → Draft → Draft → Type 0
+ExtendsChain source go c r from before after =
+    (xs : List ℤ) (p : Claim) → Behind xs from → ClaimShown before.sheet xs p c →
+    DraftReads (λ q _. ClaimShown after.sheet xs q (record { arrow = false })) source (go p) r before after
 
 -- the words of formulas with arrows behind them, the nearest first
 unfoldable pub chain_words : List Formula → List ℤ

@@ -9,8 +9,8 @@ ghost use Rattle.text.specs.Row.{first_of, between_of, join_of, operand_of, row_
 
 use crate::character::is_letter;
 use crate::claim::Claim;
+use crate::draft::Draft;
 use crate::row::Row;
-use crate::sheet::Sheet;
 use crate::source::{LONGEST, Source};
 use crate::term::is_word;
 use grammar::fault::Fault;
@@ -63,138 +63,114 @@ impl Source<'_> {
     // A term, or its comparison with another.
     fn comparison(
         &self,
-        at: &mut usize,
-        sheet: &mut Sheet,
+        draft: &mut Draft,
         depth: usize,
         from: usize,
     ) -> Result<Option<Claim>, Fault>
-        ensures { ExtendsPiece (λ t. run (comparison_of self.now.names.now (nest self.now.names.now depth) t (slice_index self.now.text.now at.old)) self.now.text.now at.old) result at.new from sheet.old sheet.new }
+        ensures { ExtendsPiece self.now (λ t. comparison_of self.now.names.now (nest self.now.names.now depth) t (slice_index self.now.text.now draft.old.at)) result from draft.old draft.new }
     {
-        if !begins_relation(self.front(*at)) {
+        if !begins_relation(self.front(draft.at)) {
             return Ok(None);
         }
-        let relation = self.relation(at)?;
-        let middle = sheet.count;
-        let arrow = self.sum(at, sheet, depth, true)?;
-        sheet.compare(relation, from, middle);
+        let relation = self.relation(&mut draft.at)?;
+        let middle = draft.sheet.count;
+        let arrow = self.sum(draft, depth, true)?;
+        draft.sheet.compare(relation, from, middle);
         Ok(Some(Claim { arrow }))
     }
 
     // A term goes on as a sum, which may be compared.
     fn from_product(
         &self,
-        at: &mut usize,
-        sheet: &mut Sheet,
+        draft: &mut Draft,
         depth: usize,
         from: usize,
     ) -> Result<Option<Claim>, Fault>
-        ensures { ExtendsPiece (λ t. run (from_product self.now.names.now (nest self.now.names.now depth) t) self.now.text.now at.old) result at.new from sheet.old sheet.new }
+        ensures { ExtendsPiece self.now (from_product self.now.names.now (nest self.now.names.now depth)) result from draft.old draft.new }
     {
-        self.plus(at, sheet, depth, false, from)?;
-        self.comparison(at, sheet, depth, from)
+        self.plus(draft, depth, false, from)?;
+        self.comparison(draft, depth, from)
     }
 
     fn from_primary(
         &self,
-        at: &mut usize,
-        sheet: &mut Sheet,
+        draft: &mut Draft,
         depth: usize,
         from: usize,
     ) -> Result<Option<Claim>, Fault>
-        ensures { ExtendsPiece (λ t. run (from_primary self.now.names.now (nest self.now.names.now depth) t) self.now.text.now at.old) result at.new from sheet.old sheet.new }
+        ensures { ExtendsPiece self.now (from_primary self.now.names.now (nest self.now.names.now depth)) result from draft.old draft.new }
     {
-        self.raised(at, sheet, from)?;
-        self.times(at, sheet, depth, from)?;
-        self.from_product(at, sheet, depth, from)
+        self.raised(draft, from)?;
+        self.times(draft, depth, from)?;
+        self.from_product(draft, depth, from)
     }
 
     // What `not` denies.
     #[cycle(formula_levels)]
-    fn denied(
-        &self,
-        at: &mut usize,
-        sheet: &mut Sheet,
-        depth: usize,
-    ) -> Result<Option<Claim>, Fault>
-        ensures { WritesPiece (run (denied (nest self.now.names.now depth)) self.now.text.now at.old) result at.new sheet.old sheet.new }
+    fn denied(&self, draft: &mut Draft, depth: usize) -> Result<Option<Claim>, Fault>
+        ensures { WritesPiece self.now (denied (nest self.now.names.now depth)) result draft.old draft.new }
     {
-        self.blanks(at);
+        self.blanks(&mut draft.at);
         if depth == 0 {
             return Err(Fault::Deep);
         }
-        let from = sheet.count;
-        let claim = self.atom(at, sheet, depth - 1)?.ok_or(Fault::Unfit)?;
-        sheet.insert(from, 3);
+        let from = draft.sheet.count;
+        let claim = self.atom(draft, depth - 1)?.ok_or(Fault::Unfit)?;
+        draft.sheet.insert(from, 3);
         Ok(Some(claim))
     }
 
     // `not` with what it denies, or a name.
     #[cycle(formula_levels)]
-    fn from_word(
-        &self,
-        at: &mut usize,
-        sheet: &mut Sheet,
-        depth: usize,
-        word: Word,
-    ) -> Result<Option<Claim>, Fault>
-        ensures { WritesPiece (run (from_word self.now.names.now (nest self.now.names.now depth) word) self.now.text.now at.old) result at.new sheet.old sheet.new }
+    fn from_word(&self, draft: &mut Draft, depth: usize, word: Word) -> Result<Option<Claim>, Fault>
+        ensures { WritesPiece self.now (from_word self.now.names.now (nest self.now.names.now depth) word) result draft.old draft.new }
     {
         if is_word(word, b"not\0\0\0\0\0") {
-            return self.denied(at, sheet, depth);
+            return self.denied(draft, depth);
         }
-        let from = sheet.count;
-        self.named(at, sheet, word)?;
-        self.from_primary(at, sheet, depth, from)
+        let from = draft.sheet.count;
+        self.named(draft, word)?;
+        self.from_primary(draft, depth, from)
     }
 
     // A formula in parentheses, or a term that begins with one.
     #[cycle(formula_levels)]
-    fn enclosed(
-        &self,
-        at: &mut usize,
-        sheet: &mut Sheet,
-        depth: usize,
-    ) -> Result<Option<Claim>, Fault>
-        ensures { WritesPiece (run (enclosed self.now.names.now (nest self.now.names.now depth)) self.now.text.now at.old) result at.new sheet.old sheet.new }
+    fn enclosed(&self, draft: &mut Draft, depth: usize) -> Result<Option<Claim>, Fault>
+        ensures { WritesPiece self.now (enclosed self.now.names.now (nest self.now.names.now depth)) result draft.old draft.new }
     {
-        let from = sheet.count;
-        self.sign(at, b"(")?;
+        let from = draft.sheet.count;
+        self.sign(&mut draft.at, b"(")?;
         if depth == 0 {
             return Err(Fault::Deep);
         }
-        let piece = self.row(at, sheet, depth - 1, Row::Equivalence)?;
-        self.sign(at, b")")?;
+        let piece = self.row(draft, depth - 1, Row::Equivalence)?;
+        self.sign(&mut draft.at, b")")?;
         match piece {
-            None => self.from_primary(at, sheet, depth, from),
+            None => self.from_primary(draft, depth, from),
             Some(claim) => Ok(Some(claim)),
         }
     }
 
     // What `and` joins, or a term.
     #[cycle(formula_levels)]
-    pub fn atom(
-        &self,
-        at: &mut usize,
-        sheet: &mut Sheet,
-        depth: usize,
-    ) -> Result<Option<Claim>, Fault>
-        ensures { WritesPiece (run (atom_of self.now.names.now (nest self.now.names.now depth) (slice_index self.now.text.now at.old)) self.now.text.now at.old) result at.new sheet.old sheet.new }
+    pub fn atom(&self, draft: &mut Draft, depth: usize) -> Result<Option<Claim>, Fault>
+        ensures { WritesPiece self.now (atom_of self.now.names.now (nest self.now.names.now depth) (slice_index self.now.text.now draft.old.at)) result draft.old draft.new }
     {
-        let from = sheet.count;
-        let c = self.front(*at);
+        let from = draft.sheet.count;
+        let c = self.front(draft.at);
         if is_letter(c) {
-            let word = self.letters(at)?;
-            return self.from_word(at, sheet, depth, word);
+            let word = self.letters(&mut draft.at)?;
+            return self.from_word(draft, depth, word);
         }
         if c == b'(' {
-            return self.enclosed(at, sheet, depth);
+            return self.enclosed(draft, depth);
         }
         if c == b'-' {
-            self.negated(at, sheet, depth)?;
-            return self.from_product(at, sheet, depth, from);
+            self.negated(draft, depth)?;
+            return self.from_product(draft, depth, from);
         }
-        self.primary(at, sheet, depth)?;
-        self.from_primary(at, sheet, depth, from)
+        self.primary(draft, depth)?;
+        self.from_primary(draft, depth, from)
     }
 
     // What joins a row.
@@ -210,19 +186,13 @@ impl Source<'_> {
 
     // A formula of the level below a row, or a term.
     #[cycle(formula_levels)]
-    fn operand(
-        &self,
-        at: &mut usize,
-        sheet: &mut Sheet,
-        depth: usize,
-        row: Row,
-    ) -> Result<Option<Claim>, Fault>
-        ensures { WritesPiece (run (operand_of row self.now.names.now (nest self.now.names.now depth)) self.now.text.now at.old) result at.new sheet.old sheet.new }
+    fn operand(&self, draft: &mut Draft, depth: usize, row: Row) -> Result<Option<Claim>, Fault>
+        ensures { WritesPiece self.now (operand_of row self.now.names.now (nest self.now.names.now depth)) result draft.old draft.new }
     {
         match row {
-            Row::Conjunction => self.atom(at, sheet, depth),
-            Row::Disjunction => self.row(at, sheet, depth, Row::Conjunction),
-            Row::Equivalence => self.implication(at, sheet, depth),
+            Row::Conjunction => self.atom(draft, depth),
+            Row::Disjunction => self.row(draft, depth, Row::Conjunction),
+            Row::Equivalence => self.implication(draft, depth),
         }
     }
 
@@ -230,18 +200,17 @@ impl Source<'_> {
     #[cycle(formula_levels)]
     fn row_next(
         &self,
-        at: &mut usize,
-        sheet: &mut Sheet,
+        draft: &mut Draft,
         depth: usize,
         row: Row,
         from: usize,
     ) -> Result<Claim, Fault>
-        ensures { NextClaim (λ p. run (row_next (between_of row) (join_of row) (operand_of row self.now.names.now (nest self.now.names.now depth)) p) self.now.text.now at.old) result at.new from sheet.old sheet.new }
+        ensures { NextClaim self.now (row_next (between_of row) (join_of row) (operand_of row self.now.names.now (nest self.now.names.now depth))) result from draft.old draft.new }
     {
-        self.between(at, row)?;
-        let middle = sheet.count;
-        let claim = self.operand(at, sheet, depth, row)?.ok_or(Fault::Unfit)?;
-        sheet.join(row, from, middle);
+        self.between(&mut draft.at, row)?;
+        let middle = draft.sheet.count;
+        let claim = self.operand(draft, depth, row)?.ok_or(Fault::Unfit)?;
+        draft.sheet.join(row, from, middle);
         Ok(claim)
     }
 
@@ -249,40 +218,33 @@ impl Source<'_> {
     #[cycle(formula_levels)]
     fn row_on(
         &self,
-        at: &mut usize,
-        sheet: &mut Sheet,
+        draft: &mut Draft,
         depth: usize,
         row: Row,
         from: usize,
         mut claim: Claim,
     ) -> Result<Claim, Fault>
-        ensures { ExtendsClaim (λ p. run (row_for 65536 (first_of row) (between_of row) (join_of row) (operand_of row self.now.names.now (nest self.now.names.now depth)) p) self.now.text.now at.old) claim result at.new from sheet.old sheet.new }
+        ensures { ExtendsClaim self.now (row_for 65536 (first_of row) (between_of row) (join_of row) (operand_of row self.now.names.now (nest self.now.names.now depth))) claim result from draft.old draft.new }
     {
         for _turn in 0..LONGEST {
-            if claim.arrow || self.front(*at) != row.first() {
+            if claim.arrow || self.front(draft.at) != row.first() {
                 return Ok(claim);
             }
-            claim = self.row_next(at, sheet, depth, row, from)?;
+            claim = self.row_next(draft, depth, row, from)?;
         }
         Ok(claim)
     }
 
     // A row of formulas, or a term.
     #[cycle(formula_levels)]
-    pub fn row(
-        &self,
-        at: &mut usize,
-        sheet: &mut Sheet,
-        depth: usize,
-        row: Row,
-    ) -> Result<Option<Claim>, Fault>
-        ensures { WritesPiece (run (row_of row self.now.names.now (nest self.now.names.now depth)) self.now.text.now at.old) result at.new sheet.old sheet.new }
+    pub fn row(&self, draft: &mut Draft, depth: usize, row: Row) -> Result<Option<Claim>, Fault>
+        ensures { WritesPiece self.now (row_of row self.now.names.now (nest self.now.names.now depth)) result draft.old draft.new }
     {
-        let from = sheet.count;
-        let Some(first) = self.operand(at, sheet, depth, row)? else {
+        let from = draft.sheet.count;
+        let Some(first) = self.operand(draft, depth, row)? else {
             return Ok(None);
         };
-        let last = self.row_on(at, sheet, depth, row, from, first)?;
+        let last = self.row_on(draft, depth, row, from, first)?;
         Ok(Some(last))
     }
 
@@ -298,17 +260,11 @@ impl Source<'_> {
 
     // A formula more, behind an arrow.
     #[cycle(formula_levels)]
-    fn arrow_next(
-        &self,
-        at: &mut usize,
-        sheet: &mut Sheet,
-        depth: usize,
-        claim: Claim,
-    ) -> Result<Claim, Fault>
-        ensures { ArrowNext (λ s. run (chain_next (disjunction self.now.names.now (nest self.now.names.now depth)) s) self.now.text.now at.old) claim result at.new sheet.old sheet.new }
+    fn arrow_next(&self, draft: &mut Draft, depth: usize, claim: Claim) -> Result<Claim, Fault>
+        ensures { ArrowNext self.now (chain_next (disjunction self.now.names.now (nest self.now.names.now depth))) claim result draft.old draft.new }
     {
-        self.arrow_behind(at, claim)?;
-        self.row(at, sheet, depth, Row::Disjunction)?
+        self.arrow_behind(&mut draft.at, claim)?;
+        self.row(draft, depth, Row::Disjunction)?
             .ok_or(Fault::Unfit)
     }
 
@@ -316,39 +272,33 @@ impl Source<'_> {
     #[cycle(formula_levels)]
     fn chained(
         &self,
-        at: &mut usize,
-        sheet: &mut Sheet,
+        draft: &mut Draft,
         depth: usize,
         mut from: usize,
         mut claim: Claim,
     ) -> Result<(), Fault>
-        ensures { ExtendsChain (λ p. run (chained (disjunction self.now.names.now (nest self.now.names.now depth)) p) self.now.text.now at.old) claim result at.new from sheet.old sheet.new }
+        ensures { ExtendsChain self.now (chained (disjunction self.now.names.now (nest self.now.names.now depth))) claim result from draft.old draft.new }
     {
         for _turn in 0..LONGEST {
-            if !claim.arrow && self.front(*at) != b'-' {
+            if !claim.arrow && self.front(draft.at) != b'-' {
                 return Ok(());
             }
-            sheet.imply(from);
-            from = sheet.count;
-            claim = self.arrow_next(at, sheet, depth, claim)?;
+            draft.sheet.imply(from);
+            from = draft.sheet.count;
+            claim = self.arrow_next(draft, depth, claim)?;
         }
         Ok(())
     }
 
     #[cycle(formula_levels)]
-    pub fn implication(
-        &self,
-        at: &mut usize,
-        sheet: &mut Sheet,
-        depth: usize,
-    ) -> Result<Option<Claim>, Fault>
-        ensures { WritesPiece (run (implication self.now.names.now (nest self.now.names.now depth)) self.now.text.now at.old) result at.new sheet.old sheet.new }
+    pub fn implication(&self, draft: &mut Draft, depth: usize) -> Result<Option<Claim>, Fault>
+        ensures { WritesPiece self.now (implication self.now.names.now (nest self.now.names.now depth)) result draft.old draft.new }
     {
-        let from = sheet.count;
-        let Some(first) = self.row(at, sheet, depth, Row::Disjunction)? else {
+        let from = draft.sheet.count;
+        let Some(first) = self.row(draft, depth, Row::Disjunction)? else {
             return Ok(None);
         };
-        self.chained(at, sheet, depth, from, first)?;
+        self.chained(draft, depth, from, first)?;
         Ok(Some(Claim { arrow: false }))
     }
 }

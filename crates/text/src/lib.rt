@@ -3,6 +3,7 @@
 
 pub mod character;
 pub mod claim;
+pub mod draft;
 pub mod formula;
 pub mod prefix;
 pub mod read;

@@ -4,6 +4,7 @@ ghost use Rattle.grammar.specs.Reader.{run};
 ghost use Rattle.grammar.specs.Text.{sentence};
 ghost use Rattle.text.specs.Sentence.{Announces, WritesSentence};
 
+use crate::draft::Draft;
 use crate::prefix::{Prefix, quantifiers};
 use crate::row::Row;
 use crate::sheet::Sheet;
@@ -24,19 +25,19 @@ fn announce(sheet: &mut Sheet, prefix: Prefix)
     }
 }
 
-pub fn sentence(text: &[u8], at: &mut usize, sheet: &mut Sheet) -> Result<(), Fault>
-    ensures { WritesSentence (run sentence text.now at.old) result at.new sheet.old sheet.new }
+pub fn sentence(text: &[u8], draft: &mut Draft) -> Result<(), Fault>
+    ensures { WritesSentence text.now result draft.old draft.new }
 {
     let start = Source { text, names: &[] };
-    start.blanks(at);
-    let prefix = quantifiers(text, at)?;
-    start.sign(at, b":")?;
-    announce(sheet, prefix);
+    start.blanks(&mut draft.at);
+    let prefix = quantifiers(text, &mut draft.at)?;
+    start.sign(&mut draft.at, b":")?;
+    announce(&mut draft.sheet, prefix);
     let source = Source {
         text,
         names: &prefix.names[0..prefix.count],
     };
-    let claim = source.row(at, sheet, DEEPEST, Row::Equivalence)?;
+    let claim = source.row(draft, DEEPEST, Row::Equivalence)?;
     claim.ok_or(Fault::Unfit)?;
     Ok(())
 }

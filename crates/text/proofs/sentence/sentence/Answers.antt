@@ -33,7 +33,7 @@ returns-in_err-ok_or c held =
     let said = c.announce.ensures held in
     let a = c.in_ok-claim.ensures (pos c.in_ok-prefix.prefix.count ∷ map quantifier_word (take c.in_ok-prefix.prefix.count c.in_ok-prefix.prefix.every)) said in
     refused_by _ _ c.from_residual-in_err-ok_or.result _ _ (goes_on _ _ _ _ _ _ c.blanks.ensures ∙ goes_on _ _ _ _ _ _ c.in_ok-prefix.ensures.0 ∙ goes_on _ _ _ _ _ _ c.in_ok-sign.ensures ∙ goes_on (equivalence (prefix_of c.in_ok-prefix.prefix).names (nest (prefix_of c.in_ok-prefix.prefix).names 200)) _ _ _ _ _ (ap (λ k. run (equivalence (take k c.in_ok-prefix.prefix.names) (nest (take k c.in_ok-prefix.prefix.names) 200)) c.args.text.now c.sign.new.at) same ∙ a.1) ∙
-    stops _ _ _ _ _ (no_claim c.row.new.sheet (pos c.in_ok-prefix.prefix.count ∷ map quantifier_word (take c.in_ok-prefix.prefix.count c.in_ok-prefix.prefix.every)) a.0 _ _ c.args.text.now c.row.new.at a.2 c.in_err-ok_or.ensures.value)) c.from_residual-in_err-ok_or.ensures.1
+    stops _ _ _ _ _ (no_claim c.row.new.draft.sheet (pos c.in_ok-prefix.prefix.count ∷ map quantifier_word (take c.in_ok-prefix.prefix.count c.in_ok-prefix.prefix.every)) a.0 _ _ c.args.text.now c.row.new.draft.at a.2 c.in_err-ok_or.ensures.value)) c.from_residual-in_err-ok_or.ensures.1
 
 pub returns : goal.returns
 unfolding sentence run
@@ -41,12 +41,12 @@ returns c held =
     let same : c.in_ok-prefix.prefix.count ≡ c.in_ok-prefix.prefix.count - 0 = omega arith in
     let said = c.announce.ensures held in
     let a = c.in_ok-claim.ensures (pos c.in_ok-prefix.prefix.count ∷ map quantifier_word (take c.in_ok-prefix.prefix.count c.in_ok-prefix.prefix.every)) said in
-    let q = claims c.row.new.sheet (pos c.in_ok-prefix.prefix.count ∷ map quantifier_word (take c.in_ok-prefix.prefix.count c.in_ok-prefix.prefix.every)) a.0 _ c.in_ok-ok_or.field-0 c.args.text.now c.row.new.at a.2 c.in_ok-ok_or.ensures.ok_part in
+    let q = claims c.row.new.draft.sheet (pos c.in_ok-prefix.prefix.count ∷ map quantifier_word (take c.in_ok-prefix.prefix.count c.in_ok-prefix.prefix.every)) a.0 _ c.in_ok-ok_or.field-0 c.args.text.now c.row.new.draft.at a.2 c.in_ok-ok_or.ensures.ok_part in
     let every-long : length c.in_ok-prefix.prefix.every ≡ 4 = search rules in
     let few = c.in_ok-prefix.ensures.1 in
     let long : c.in_ok-prefix.prefix.count ≡ length (prefix_of c.in_ok-prefix.prefix).quantifiers = omega (arith, length-take c.in_ok-prefix.prefix.count c.in_ok-prefix.prefix.every) in (
       record { quantifiers = (prefix_of c.in_ok-prefix.prefix).quantifiers; body = q.0.formula },
       goes_on _ _ _ _ _ _ c.blanks.ensures ∙ goes_on _ _ _ _ _ _ c.in_ok-prefix.ensures.0 ∙ goes_on _ _ _ _ _ _ c.in_ok-sign.ensures ∙ goes_on (equivalence (prefix_of c.in_ok-prefix.prefix).names (nest (prefix_of c.in_ok-prefix.prefix).names 200)) _ _ _ _ _ (ap (λ k. run (equivalence (take k c.in_ok-prefix.prefix.names) (nest (take k c.in_ok-prefix.prefix.names) 200)) c.args.text.now c.sign.new.at) same ∙ a.1) ∙ goes_on _ _ _ _ _ _ q.2,
-      same_words c.row.new.sheet ((pos c.in_ok-prefix.prefix.count ∷ map quantifier_word (take c.in_ok-prefix.prefix.count c.in_ok-prefix.prefix.every)) ++ formula_words q.0.formula) (sentence_words (record { quantifiers = (prefix_of c.in_ok-prefix.prefix).quantifiers; body = q.0.formula }))
+      same_words c.row.new.draft.sheet ((pos c.in_ok-prefix.prefix.count ∷ map quantifier_word (take c.in_ok-prefix.prefix.count c.in_ok-prefix.prefix.every)) ++ formula_words q.0.formula) (sentence_words (record { quantifiers = (prefix_of c.in_ok-prefix.prefix).quantifiers; body = q.0.formula }))
           (ap (λ n. pos n ∷ (map quantifier_word (prefix_of c.in_ok-prefix.prefix).quantifiers ++ formula_words q.0.formula)) long) q.3.1,
     )

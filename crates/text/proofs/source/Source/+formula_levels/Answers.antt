@@ -23,7 +23,7 @@ use Rattle.text.proofs.source.Source.+formula_levels.Goals.{row_on-then-claim-vi
 pub operand-returns-in-Conjunction : goal.operand-returns-in-Conjunction
 unfolding atom run
 operand-returns-in-Conjunction m c xs held =
-    read_by _ _ _ c.atom.result _ (ap (λ r. run (operand_of r c.args.self.now.names.now (nest c.args.self.now.names.now c.args.depth)) c.args.self.now.text.now c.args.at.now) c.in-Conjunction.is) (c.atom.ensures xs held)
+    read_by _ _ _ c.atom.result _ (ap (λ r. run (operand_of r c.args.self.now.names.now (nest c.args.self.now.names.now c.args.depth)) c.args.self.now.text.now c.args.draft.now.at) c.in-Conjunction.is) (c.atom.ensures xs held)
 
 pub row_next-returns-in_err-between : goal.row_next-returns-in_err-between
 unfolding row_next
@@ -39,18 +39,18 @@ pub row_next-returns-in_err-claim : goal.row_next-returns-in_err-claim
 unfolding row_next
 row_next-returns-in_err-claim m c xs p begins held =
     let a = c.in_ok-operand.ensures (xs ++ formula_words p.formula) held in
-    refused_by _ _ c.from_residual-in_err-claim.result _ _ (run_on _ _ _ _ _ _ c.in_ok-between.ensures ∙ run_on _ _ _ _ _ _ a.1 ∙ stops _ _ _ _ _ (no_claim c.operand.new.sheet (xs ++ formula_words p.formula) a.0 _ _ c.args.self.now.text.now c.operand.new.at a.2 c.in_err-claim.ensures.value)) c.from_residual-in_err-claim.ensures.1
+    refused_by _ _ c.from_residual-in_err-claim.result _ _ (run_on _ _ _ _ _ _ c.in_ok-between.ensures ∙ run_on _ _ _ _ _ _ a.1 ∙ stops _ _ _ _ _ (no_claim c.operand.new.draft.sheet (xs ++ formula_words p.formula) a.0 _ _ c.args.self.now.text.now c.operand.new.draft.at a.2 c.in_err-claim.ensures.value)) c.from_residual-in_err-claim.ensures.1
 
 pub row_next-returns : goal.row_next-returns
 unfolding row_next run
 row_next-returns m c xs p begins held =
     let a = c.in_ok-operand.ensures (xs ++ formula_words p.formula) held in
-    let q = claims c.operand.new.sheet (xs ++ formula_words p.formula) a.0 _ c.in_ok-claim.claim c.args.self.now.text.now c.operand.new.at a.2 c.in_ok-claim.ensures.ok_part in (
+    let q = claims c.operand.new.draft.sheet (xs ++ formula_words p.formula) a.0 _ c.in_ok-claim.claim c.args.self.now.text.now c.operand.new.draft.at a.2 c.in_ok-claim.ensures.ok_part in (
       joined (join_of c.args.row) p q.0,
       run_on _ _ _ _ _ _ c.in_ok-between.ensures ∙ run_on _ _ _ _ _ _ a.1 ∙ run_on _ _ _ _ _ _ q.2,
       (
         q.3.0,
-        c.join.ensures xs p.formula q.0.formula begins held.counted (regrouped c.operand.new.sheet xs (formula_words p.formula) (formula_words q.0.formula) q.3.1),
+        c.join.ensures xs p.formula q.0.formula begins held.counted (regrouped c.operand.new.draft.sheet xs (formula_words p.formula) (formula_words q.0.formula) q.3.1),
       ),
     )
 
@@ -58,31 +58,31 @@ pub row_on-returns-then-claim : goal.row_on-returns-then-claim
 unfolding row_for
 row_on-returns-then-claim m c xs p begins shown =
     let i = c.loop-turn.invariant xs p begins shown in
-    let ended : (not i.0.arrow && eqb (get_or c.args.self.now.text.now c.loop-turn.at 0) (first_of c.args.row)) ≡ false =
+    let ended : (not i.0.arrow && eqb (get_or c.args.self.now.text.now c.loop-turn.draft.at 0) (first_of c.args.row)) ≡ false =
     elim c.then-claim.branch [
       | row_on-then-claim-via-then-claim v ↦ and_left _ _ (ap not (i.2.0 ∙ v.if-claim.true))
       | row_on-then-claim-via-else-claim+then-front-first v ↦ and_right _ _ (ne_eqb _ (first_of c.args.row) (λ e. v.if-front-first.true (v.front.ensures ∙ e ∙ sym v.first.ensures)))
     ] in
-    (i.0, i.1 ∙ while-ended (goes_on (first_of c.args.row)) (row_next (between_of c.args.row) (join_of c.args.row) (operand_of c.args.row c.args.self.now.names.now (nest c.args.self.now.names.now c.args.depth))) _ i.0 c.args.self.now.text.now c.loop-turn.at ended, i.2)
+    (i.0, i.1 ∙ while-ended (goes_on (first_of c.args.row)) (row_next (between_of c.args.row) (join_of c.args.row) (operand_of c.args.row c.args.self.now.names.now (nest c.args.self.now.names.now c.args.depth))) _ i.0 c.args.self.now.text.now c.loop-turn.draft.at ended, i.2)
 
 pub row_on-returns-in_err-claim : goal.row_on-returns-in_err-claim
 unfolding row_for
 row_on-returns-in_err-claim m c xs p begins shown =
     let i = c.loop-turn.invariant xs p begins shown in
-    refused_by _ _ c.from_residual.result _ _ (i.1 ∙ while_stops (goes_on (first_of c.args.row)) (row_next (between_of c.args.row) (join_of c.args.row) (operand_of c.args.row c.args.self.now.names.now (nest c.args.self.now.names.now c.args.depth))) 65536 c.loop-turn._turn i.0 c.args.self.now.text.now c.loop-turn.at _ c.loop-turn-test.true (and_from _ _ (ap not (i.2.0 ∙ c.if-claim.false)) (eq-eqb _ (first_of c.args.row) (sym c.front.ensures ∙ c.if-front-first.false ∙ c.first.ensures))) (c.in_err-claim.ensures xs i.0 begins i.2.1)) c.from_residual.ensures.1
+    refused_by _ _ c.from_residual.result _ _ (i.1 ∙ while_stops (goes_on (first_of c.args.row)) (row_next (between_of c.args.row) (join_of c.args.row) (operand_of c.args.row c.args.self.now.names.now (nest c.args.self.now.names.now c.args.depth))) 65536 c.loop-turn._turn i.0 c.args.self.now.text.now c.loop-turn.draft.at _ c.loop-turn-test.true (and_from _ _ (ap not (i.2.0 ∙ c.if-claim.false)) (eq-eqb _ (first_of c.args.row) (sym c.front.ensures ∙ c.if-front-first.false ∙ c.first.ensures))) (c.in_err-claim.ensures xs i.0 begins i.2.1)) c.from_residual.ensures.1
 
 pub row_on-loop-turn-preserved : goal.row_on-loop-turn-preserved
 unfolding row_for
 row_on-loop-turn-preserved m c xs p begins shown =
     let i = c.loop-turn.invariant xs p begins shown in
     let n = c.in_ok-claim.ensures xs i.0 begins i.2.1 in
-    (n.0, i.1 ∙ while_goes (goes_on (first_of c.args.row)) (row_next (between_of c.args.row) (join_of c.args.row) (operand_of c.args.row c.args.self.now.names.now (nest c.args.self.now.names.now c.args.depth))) 65536 c.loop-turn._turn i.0 c.args.self.now.text.now c.loop-turn.at n.0 _ c.loop-turn-test.true (and_from _ _ (ap not (i.2.0 ∙ c.if-claim.false)) (eq-eqb _ (first_of c.args.row) (sym c.front.ensures ∙ c.if-front-first.false ∙ c.first.ensures))) n.1, n.2)
+    (n.0, i.1 ∙ while_goes (goes_on (first_of c.args.row)) (row_next (between_of c.args.row) (join_of c.args.row) (operand_of c.args.row c.args.self.now.names.now (nest c.args.self.now.names.now c.args.depth))) 65536 c.loop-turn._turn i.0 c.args.self.now.text.now c.loop-turn.draft.at n.0 _ c.loop-turn-test.true (and_from _ _ (ap not (i.2.0 ∙ c.if-claim.false)) (eq-eqb _ (first_of c.args.row) (sym c.front.ensures ∙ c.if-front-first.false ∙ c.first.ensures))) n.1, n.2)
 
 pub row_on-returns : goal.row_on-returns
 unfolding row_for
 row_on-returns m c xs p begins shown =
     let i = c.loop-turn.invariant xs p begins shown in
-    (i.0, i.1 ∙ while-over (goes_on (first_of c.args.row)) (row_next (between_of c.args.row) (join_of c.args.row) (operand_of c.args.row c.args.self.now.names.now (nest c.args.self.now.names.now c.args.depth))) 65536 c.loop-turn._turn i.0 c.args.self.now.text.now c.loop-turn.at c.loop-turn-test.false, i.2)
+    (i.0, i.1 ∙ while-over (goes_on (first_of c.args.row)) (row_next (between_of c.args.row) (join_of c.args.row) (operand_of c.args.row c.args.self.now.names.now (nest c.args.self.now.names.now c.args.depth))) 65536 c.loop-turn._turn i.0 c.args.self.now.text.now c.loop-turn.draft.at c.loop-turn-test.false, i.2)
 
 pub row-returns-in_err-first : goal.row-returns-in_err-first
 row-returns-in_err-first m c xs held =
@@ -92,23 +92,23 @@ pub row-returns-in_default : goal.row-returns-in_default
 unfolding on_claim run
 row-returns-in_default m c xs held =
     let a = c.in_ok-first.ensures xs held in
-    let t = term_stands c.operand.new.sheet xs a.0 c.in_ok-first.field-0 a.2 c.in_default.is in
-    (OfTerm t.0, row_runs c.args.row _ _ _ _ ∙ run_on _ _ _ _ _ _ (a.1 ∙ ap (λ z. Read z c.operand.new.at) t.1), t.2)
+    let t = term_stands c.operand.new.draft.sheet xs a.0 c.in_ok-first.field-0 a.2 c.in_default.is in
+    (OfTerm t.0, row_runs c.args.row _ _ _ _ ∙ run_on _ _ _ _ _ _ (a.1 ∙ ap (λ z. Read z c.operand.new.draft.at) t.1), t.2)
 
 pub row-returns-in_err-last : goal.row-returns-in_err-last
 unfolding on_claim
 row-returns-in_err-last m c xs held =
     let a = c.in_ok-first.ensures xs held in
-    let q = claims c.operand.new.sheet xs a.0 c.in_ok-first.field-0 c.in-Some.first c.args.self.now.text.now c.operand.new.at a.2 c.in-Some.is in
-    refused_by _ _ c.from_residual-in_err-last.result _ _ (row_runs c.args.row _ _ _ _ ∙ run_on _ _ _ _ _ _ (a.1 ∙ ap (λ z. Read z c.operand.new.at) q.1) ∙ stops _ _ _ _ _ (c.in_err-last.ensures xs q.0 held.counted q.3)) c.from_residual-in_err-last.ensures.1
+    let q = claims c.operand.new.draft.sheet xs a.0 c.in_ok-first.field-0 c.in-Some.first c.args.self.now.text.now c.operand.new.draft.at a.2 c.in-Some.is in
+    refused_by _ _ c.from_residual-in_err-last.result _ _ (row_runs c.args.row _ _ _ _ ∙ run_on _ _ _ _ _ _ (a.1 ∙ ap (λ z. Read z c.operand.new.draft.at) q.1) ∙ stops _ _ _ _ _ (c.in_err-last.ensures xs q.0 held.counted q.3)) c.from_residual-in_err-last.ensures.1
 
 pub row-returns : goal.row-returns
 unfolding on_claim run
 row-returns m c xs held =
     let a = c.in_ok-first.ensures xs held in
-    let q = claims c.operand.new.sheet xs a.0 c.in_ok-first.field-0 c.in-Some.first c.args.self.now.text.now c.operand.new.at a.2 c.in-Some.is in
+    let q = claims c.operand.new.draft.sheet xs a.0 c.in_ok-first.field-0 c.in-Some.first c.args.self.now.text.now c.operand.new.draft.at a.2 c.in-Some.is in
     let n = c.in_ok-last.ensures xs q.0 held.counted q.3 in
-    (OfClaim n.0, row_runs c.args.row _ _ _ _ ∙ run_on _ _ _ _ _ _ (a.1 ∙ ap (λ z. Read z c.operand.new.at) q.1) ∙ run_on _ _ _ _ _ _ n.1, n.2)
+    (OfClaim n.0, row_runs c.args.row _ _ _ _ ∙ run_on _ _ _ _ _ _ (a.1 ∙ ap (λ z. Read z c.operand.new.draft.at) q.1) ∙ run_on _ _ _ _ _ _ n.1, n.2)
 
 pub implication-returns-in_err-first : goal.implication-returns-in_err-first
 unfolding implication
@@ -119,33 +119,33 @@ pub implication-returns-in_default : goal.implication-returns-in_default
 unfolding implication on_claim run
 implication-returns-in_default m c xs held =
     let a = c.in_ok-first.ensures xs held in
-    let t = term_stands c.row.new.sheet xs a.0 c.in_ok-first.field-0 a.2 c.in_default.is in
-    (OfTerm t.0, run_on (disjunction c.args.self.now.names.now (nest c.args.self.now.names.now c.args.depth)) _ _ _ _ _ (a.1 ∙ ap (λ z. Read z c.row.new.at) t.1), t.2)
+    let t = term_stands c.row.new.draft.sheet xs a.0 c.in_ok-first.field-0 a.2 c.in_default.is in
+    (OfTerm t.0, run_on (disjunction c.args.self.now.names.now (nest c.args.self.now.names.now c.args.depth)) _ _ _ _ _ (a.1 ∙ ap (λ z. Read z c.row.new.draft.at) t.1), t.2)
 
 pub implication-returns-in_err-chained : goal.implication-returns-in_err-chained
 unfolding implication on_claim
 implication-returns-in_err-chained m c xs held =
     let a = c.in_ok-first.ensures xs held in
-    let q = claims c.row.new.sheet xs a.0 c.in_ok-first.field-0 c.in-Some.first c.args.self.now.text.now c.row.new.at a.2 c.in-Some.is in
-    refused_by _ _ c.from_residual-in_err-chained.result _ _ (run_on (disjunction c.args.self.now.names.now (nest c.args.self.now.names.now c.args.depth)) _ _ _ _ _ (a.1 ∙ ap (λ z. Read z c.row.new.at) q.1) ∙ stops _ _ _ _ _ (c.in_err-chained.ensures xs q.0 held.counted q.3)) c.from_residual-in_err-chained.ensures.1
+    let q = claims c.row.new.draft.sheet xs a.0 c.in_ok-first.field-0 c.in-Some.first c.args.self.now.text.now c.row.new.draft.at a.2 c.in-Some.is in
+    refused_by _ _ c.from_residual-in_err-chained.result _ _ (run_on (disjunction c.args.self.now.names.now (nest c.args.self.now.names.now c.args.depth)) _ _ _ _ _ (a.1 ∙ ap (λ z. Read z c.row.new.draft.at) q.1) ∙ stops _ _ _ _ _ (c.in_err-chained.ensures xs q.0 held.counted q.3)) c.from_residual-in_err-chained.ensures.1
 
 pub implication-returns : goal.implication-returns
 unfolding implication on_claim run
 implication-returns m c xs held =
     let a = c.in_ok-first.ensures xs held in
-    let q = claims c.row.new.sheet xs a.0 c.in_ok-first.field-0 c.in-Some.first c.args.self.now.text.now c.row.new.at a.2 c.in-Some.is in
+    let q = claims c.row.new.draft.sheet xs a.0 c.in_ok-first.field-0 c.in-Some.first c.args.self.now.text.now c.row.new.draft.at a.2 c.in-Some.is in
     let n = c.in_ok-chained.ensures xs q.0 held.counted q.3 in
-    (OfClaim n.0, run_on (disjunction c.args.self.now.names.now (nest c.args.self.now.names.now c.args.depth)) _ _ _ _ _ (a.1 ∙ ap (λ z. Read z c.row.new.at) q.1) ∙ run_on _ _ _ _ _ _ n.1, n.2)
+    (OfClaim n.0, run_on (disjunction c.args.self.now.names.now (nest c.args.self.now.names.now c.args.depth)) _ _ _ _ _ (a.1 ∙ ap (λ z. Read z c.row.new.draft.at) q.1) ∙ run_on _ _ _ _ _ _ n.1, n.2)
 
 pub arrow_next-returns-in_err-arrow_behind : goal.arrow_next-returns-in_err-arrow_behind
 unfolding chain_next
 arrow_next-returns-in_err-arrow_behind m c xs s arrow held =
-    chain_refused s _ _ c.from_residual.result _ _ (stops _ _ _ _ _ (ap (λ b. run (arrow_behind b) c.args.self.now.text.now c.args.at.now) arrow ∙ c.in_err-arrow_behind.ensures)) c.from_residual.ensures.1
+    chain_refused s _ _ c.from_residual.result _ _ (stops _ _ _ _ _ (ap (λ b. run (arrow_behind b) c.args.self.now.text.now c.args.draft.now.at) arrow ∙ c.in_err-arrow_behind.ensures)) c.from_residual.ensures.1
 
 pub arrow_next-returns-in_err-row : goal.arrow_next-returns-in_err-row
 unfolding chain_next
 arrow_next-returns-in_err-row m c xs s arrow held =
-    chain_refused s _ _ c.from_residual-in_err-row.result _ _ (run_on _ _ _ _ _ _ (ap (λ b. run (arrow_behind b) c.args.self.now.text.now c.args.at.now) arrow ∙ c.in_ok-arrow_behind.ensures) ∙ stops (disjunction c.args.self.now.names.now (nest c.args.self.now.names.now c.args.depth)) _ _ _ _ (c.in_err-row.ensures xs held)) c.from_residual-in_err-row.ensures.1
+    chain_refused s _ _ c.from_residual-in_err-row.result _ _ (run_on _ _ _ _ _ _ (ap (λ b. run (arrow_behind b) c.args.self.now.text.now c.args.draft.now.at) arrow ∙ c.in_ok-arrow_behind.ensures) ∙ stops (disjunction c.args.self.now.names.now (nest c.args.self.now.names.now c.args.depth)) _ _ _ _ (c.in_err-row.ensures xs held)) c.from_residual-in_err-row.ensures.1
 
 pub chained-loop-turn-init : goal.chained-loop-turn-init
 unfolding chained chain_words
@@ -155,7 +155,7 @@ chained-loop-turn-init m c xs p begins shown = (
   begins ∙ ap (λ l. min (length l) 1025) (sym (append-nil xs)),
   (
     shown.0,
-    same_words c.args.sheet.now (xs ++ formula_words p.formula) ((xs ++ []) ++ formula_words p.formula) (ap (λ l. l ++ formula_words p.formula) (sym (append-nil xs))) shown.1,
+    same_words c.args.draft.now.sheet (xs ++ formula_words p.formula) ((xs ++ []) ++ formula_words p.formula) (ap (λ l. l ++ formula_words p.formula) (sym (append-nil xs))) shown.1,
   ),
 )
 
@@ -163,25 +163,25 @@ pub chained-returns-then-front-ne45 : goal.chained-returns-then-front-ne45
 unfolding chain_for concluded run
 chained-returns-then-front-ne45 m c xs p begins shown =
     let i = c.loop-turn.invariant xs p begins shown in
-    let all : Holds c.loop-turn.sheet (xs ++ formula_words (implied i.0.before i.0.last.formula)) =
-    same_words c.loop-turn.sheet (xs ++ (chain_words i.0.before ++ formula_words i.0.last.formula)) _ (ap (λ l. xs ++ l) (sym (implied_words i.0.before i.0.last.formula)))
-    (regrouped c.loop-turn.sheet xs (chain_words i.0.before) (formula_words i.0.last.formula) i.3.1) in
-    (record { formula = implied i.0.before i.0.last.formula; arrow = false }, i.1 ∙ run_on _ concluded _ _ i.0 _ (while-ended arrow_goes_on (chain_next (disjunction c.args.self.now.names.now (nest c.args.self.now.names.now c.args.depth))) _ i.0 c.args.self.now.text.now c.loop-turn.at (or_from _ _ (i.3.0 ∙ sym (not-not _) ∙ ap not c.if-not-claim.true) (ne_eqb _ 45 (λ e. c.if-front-ne45.true (c.front.ensures ∙ e))))), (refl, all))
+    let all : Holds c.loop-turn.draft.sheet (xs ++ formula_words (implied i.0.before i.0.last.formula)) =
+    same_words c.loop-turn.draft.sheet (xs ++ (chain_words i.0.before ++ formula_words i.0.last.formula)) _ (ap (λ l. xs ++ l) (sym (implied_words i.0.before i.0.last.formula)))
+    (regrouped c.loop-turn.draft.sheet xs (chain_words i.0.before) (formula_words i.0.last.formula) i.3.1) in
+    (record { formula = implied i.0.before i.0.last.formula; arrow = false }, i.1 ∙ run_on _ concluded _ _ i.0 _ (while-ended arrow_goes_on (chain_next (disjunction c.args.self.now.names.now (nest c.args.self.now.names.now c.args.depth))) _ i.0 c.args.self.now.text.now c.loop-turn.draft.at (or_from _ _ (i.3.0 ∙ sym (not-not _) ∙ ap not c.if-not-claim.true) (ne_eqb _ 45 (λ e. c.if-front-ne45.true (c.front.ensures ∙ e))))), (refl, all))
 
 pub chained-returns : goal.chained-returns
 unfolding chain_for concluded run
 chained-returns m c xs p begins shown =
     let i = c.loop-turn.invariant xs p begins shown in
-    let all : Holds c.loop-turn.sheet (xs ++ formula_words (implied i.0.before i.0.last.formula)) =
-    same_words c.loop-turn.sheet (xs ++ (chain_words i.0.before ++ formula_words i.0.last.formula)) _ (ap (λ l. xs ++ l) (sym (implied_words i.0.before i.0.last.formula)))
-    (regrouped c.loop-turn.sheet xs (chain_words i.0.before) (formula_words i.0.last.formula) i.3.1) in
-    (record { formula = implied i.0.before i.0.last.formula; arrow = false }, i.1 ∙ run_on _ concluded _ _ i.0 _ (while-over arrow_goes_on (chain_next (disjunction c.args.self.now.names.now (nest c.args.self.now.names.now c.args.depth))) 65536 c.loop-turn._turn i.0 c.args.self.now.text.now c.loop-turn.at c.loop-turn-test.false), (refl, all))
+    let all : Holds c.loop-turn.draft.sheet (xs ++ formula_words (implied i.0.before i.0.last.formula)) =
+    same_words c.loop-turn.draft.sheet (xs ++ (chain_words i.0.before ++ formula_words i.0.last.formula)) _ (ap (λ l. xs ++ l) (sym (implied_words i.0.before i.0.last.formula)))
+    (regrouped c.loop-turn.draft.sheet xs (chain_words i.0.before) (formula_words i.0.last.formula) i.3.1) in
+    (record { formula = implied i.0.before i.0.last.formula; arrow = false }, i.1 ∙ run_on _ concluded _ _ i.0 _ (while-over arrow_goes_on (chain_next (disjunction c.args.self.now.names.now (nest c.args.self.now.names.now c.args.depth))) 65536 c.loop-turn._turn i.0 c.args.self.now.text.now c.loop-turn.draft.at c.loop-turn-test.false), (refl, all))
 
 pub chained-returns-in_err-claim : goal.chained-returns-in_err-claim
 unfolding chain_for chain_words
 chained-returns-in_err-claim m c xs p begins shown =
     let i = c.loop-turn.invariant xs p begins shown in
-    let goes : (i.0.last.arrow || eqb (get_or c.args.self.now.text.now c.loop-turn.at 0) 45) ≡ true =
+    let goes : (i.0.last.arrow || eqb (get_or c.args.self.now.text.now c.loop-turn.draft.at 0) 45) ≡ true =
     elim c.else-not-claim.branch [
       | chained-else-not-claim-via-then-not-claim+else-front-ne45 v ↦ or_right _ _ (eq-eqb _ 45 (sym v.front.ensures ∙ v.if-front-ne45.false))
       | chained-else-not-claim-via-else-not-claim v ↦ or_left _ _ (i.3.0 ∙ sym (not-not _) ∙ ap not v.if-not-claim.false)
@@ -189,13 +189,13 @@ chained-returns-in_err-claim m c xs p begins shown =
     let before = i.0.last.formula ∷ i.0.before in
     let implying : Holds c.imply.new.self (xs ++ chain_words before) =
     regrouped c.imply.new.self xs (chain_words i.0.before) (pos 5 ∷ pos 3 ∷ formula_words i.0.last.formula) (c.imply.ensures (xs ++ chain_words i.0.before) (formula_words i.0.last.formula) i.2 i.3.1) in
-    refused_by _ _ c.from_residual.result _ _ (i.1 ∙ stops _ concluded _ _ _ (while_stops arrow_goes_on (chain_next (disjunction c.args.self.now.names.now (nest c.args.self.now.names.now c.args.depth))) 65536 c.loop-turn._turn i.0 c.args.self.now.text.now c.loop-turn.at _ c.loop-turn-test.true goes (c.in_err-claim.ensures (xs ++ chain_words before) i.0 i.3.0 implying))) c.from_residual.ensures.1
+    refused_by _ _ c.from_residual.result _ _ (i.1 ∙ stops _ concluded _ _ _ (while_stops arrow_goes_on (chain_next (disjunction c.args.self.now.names.now (nest c.args.self.now.names.now c.args.depth))) 65536 c.loop-turn._turn i.0 c.args.self.now.text.now c.loop-turn.draft.at _ c.loop-turn-test.true goes (c.in_err-claim.ensures (xs ++ chain_words before) i.0 i.3.0 implying))) c.from_residual.ensures.1
 
 pub chained-loop-turn-preserved : goal.chained-loop-turn-preserved
 unfolding chain_for chain_words
 chained-loop-turn-preserved m c xs p begins shown =
     let i = c.loop-turn.invariant xs p begins shown in
-    let goes : (i.0.last.arrow || eqb (get_or c.args.self.now.text.now c.loop-turn.at 0) 45) ≡ true =
+    let goes : (i.0.last.arrow || eqb (get_or c.args.self.now.text.now c.loop-turn.draft.at 0) 45) ≡ true =
     elim c.else-not-claim.branch [
       | chained-else-not-claim-via-then-not-claim+else-front-ne45 v ↦ or_right _ _ (eq-eqb _ 45 (sym v.front.ensures ∙ v.if-front-ne45.false))
       | chained-else-not-claim-via-else-not-claim v ↦ or_left _ _ (i.3.0 ∙ sym (not-not _) ∙ ap not v.if-not-claim.false)
@@ -205,7 +205,7 @@ chained-loop-turn-preserved m c xs p begins shown =
     regrouped c.imply.new.self xs (chain_words i.0.before) (pos 5 ∷ pos 3 ∷ formula_words i.0.last.formula) (c.imply.ensures (xs ++ chain_words i.0.before) (formula_words i.0.last.formula) i.2 i.3.1) in
     let n = c.in_ok-claim.ensures (xs ++ chain_words before) i.0 i.3.0 implying in (
       record { before = before; last = n.0 },
-      i.1 ∙ bind_same _ _ concluded _ _ _ (while_goes arrow_goes_on (chain_next (disjunction c.args.self.now.names.now (nest c.args.self.now.names.now c.args.depth))) 65536 c.loop-turn._turn i.0 c.args.self.now.text.now c.loop-turn.at (record { before = before; last = n.0 }) _ c.loop-turn-test.true goes n.1),
+      i.1 ∙ bind_same _ _ concluded _ _ _ (while_goes arrow_goes_on (chain_next (disjunction c.args.self.now.names.now (nest c.args.self.now.names.now c.args.depth))) 65536 c.loop-turn._turn i.0 c.args.self.now.text.now c.loop-turn.draft.at (record { before = before; last = n.0 }) _ c.loop-turn-test.true goes n.1),
       implying.counted,
       n.2,
     )
@@ -224,13 +224,13 @@ pub denied-returns-in_err-claim : goal.denied-returns-in_err-claim
 unfolding denied atom run
 denied-returns-in_err-claim m c xs held =
     let a = c.in_ok-atom.ensures xs held in
-    refused_by _ _ c.from_residual-in_err-claim.result _ _ (run_on _ _ _ _ _ _ c.blanks.ensures ∙ run_on _ _ _ _ _ _ (ap (λ r. run r c.args.self.now.text.now c.blanks.new.at) (deeper_atom c.args.self.now.names.now c.args.depth c.if-depth-eq0.false) ∙ a.1) ∙ stops _ _ _ _ _ (no_claim c.atom.new.sheet xs a.0 _ _ c.args.self.now.text.now c.atom.new.at a.2 c.in_err-claim.ensures.value)) c.from_residual-in_err-claim.ensures.1
+    refused_by _ _ c.from_residual-in_err-claim.result _ _ (run_on _ _ _ _ _ _ c.blanks.ensures ∙ run_on _ _ _ _ _ _ (ap (λ r. run r c.args.self.now.text.now c.blanks.new.at) (deeper_atom c.args.self.now.names.now c.args.depth c.if-depth-eq0.false) ∙ a.1) ∙ stops _ _ _ _ _ (no_claim c.atom.new.draft.sheet xs a.0 _ _ c.args.self.now.text.now c.atom.new.draft.at a.2 c.in_err-claim.ensures.value)) c.from_residual-in_err-claim.ensures.1
 
 pub denied-returns : goal.denied-returns
 unfolding denied atom run formula_words
 denied-returns m c xs held =
     let a = c.in_ok-atom.ensures xs held in
-    let q = claims c.atom.new.sheet xs a.0 _ c.in_ok-claim.claim c.args.self.now.text.now c.atom.new.at a.2 c.in_ok-claim.ensures.ok_part in
+    let q = claims c.atom.new.draft.sheet xs a.0 _ c.in_ok-claim.claim c.args.self.now.text.now c.atom.new.draft.at a.2 c.in_ok-claim.ensures.ok_part in
     (OfClaim (record { formula = Not q.0.formula; arrow = q.0.arrow }), run_on _ _ _ _ _ _ c.blanks.ensures ∙ run_on _ _ _ _ _ _ (ap (λ r. run r c.args.self.now.text.now c.blanks.new.at) (deeper_atom c.args.self.now.names.now c.args.depth c.if-depth-eq0.false) ∙ a.1) ∙ run_on _ _ _ _ _ _ q.2, (q.3.0, c.insert.ensures xs (formula_words q.0.formula) held.counted q.3.1))
 
 pub from_word-returns-then-is_word : goal.from_word-returns-then-is_word
@@ -274,15 +274,15 @@ pub enclosed-returns-in-None : goal.enclosed-returns-in-None
 unfolding enclosed from_piece
 enclosed-returns-in-None m c xs held =
     let a = c.in_ok-piece.ensures xs held in
-    let q = term_stands c.row.new.sheet xs a.0 c.in_ok-piece.piece a.2 c.in-None.is in
-    read_by _ _ _ c.from_primary.result _ (run_on _ _ _ _ _ _ c.in_ok-sign.ensures ∙ run_on _ _ _ _ _ _ (ap (λ r. run r c.args.self.now.text.now c.sign.new.at) (deeper_formula c.args.self.now.names.now c.args.depth c.if-depth-eq0.false) ∙ a.1 ∙ ap (λ z. Read z c.row.new.at) q.1) ∙ run_on _ _ _ _ _ _ c.in_ok-sign-2.ensures) (c.from_primary.ensures xs q.0 held.counted q.2)
+    let q = term_stands c.row.new.draft.sheet xs a.0 c.in_ok-piece.piece a.2 c.in-None.is in
+    read_by _ _ _ c.from_primary.result _ (run_on _ _ _ _ _ _ c.in_ok-sign.ensures ∙ run_on _ _ _ _ _ _ (ap (λ r. run r c.args.self.now.text.now c.sign.new.at) (deeper_formula c.args.self.now.names.now c.args.depth c.if-depth-eq0.false) ∙ a.1 ∙ ap (λ z. Read z c.row.new.draft.at) q.1) ∙ run_on _ _ _ _ _ _ c.in_ok-sign-2.ensures) (c.from_primary.ensures xs q.0 held.counted q.2)
 
 pub enclosed-returns-in-Some : goal.enclosed-returns-in-Some
 unfolding enclosed from_piece run
 enclosed-returns-in-Some m c xs held =
     let a = c.in_ok-piece.ensures xs held in
-    let q = claims c.row.new.sheet xs a.0 c.in_ok-piece.piece c.in-Some.claim c.args.self.now.text.now c.row.new.at a.2 c.in-Some.is in
-    (OfClaim q.0, run_on _ _ _ _ _ _ c.in_ok-sign.ensures ∙ run_on _ _ _ _ _ _ (ap (λ r. run r c.args.self.now.text.now c.sign.new.at) (deeper_formula c.args.self.now.names.now c.args.depth c.if-depth-eq0.false) ∙ a.1 ∙ ap (λ z. Read z c.row.new.at) q.1) ∙ run_on _ _ _ _ _ _ c.in_ok-sign-2.ensures, q.3)
+    let q = claims c.row.new.draft.sheet xs a.0 c.in_ok-piece.piece c.in-Some.claim c.args.self.now.text.now c.row.new.draft.at a.2 c.in-Some.is in
+    (OfClaim q.0, run_on _ _ _ _ _ _ c.in_ok-sign.ensures ∙ run_on _ _ _ _ _ _ (ap (λ r. run r c.args.self.now.text.now c.sign.new.at) (deeper_formula c.args.self.now.names.now c.args.depth c.if-depth-eq0.false) ∙ a.1 ∙ ap (λ z. Read z c.row.new.draft.at) q.1) ∙ run_on _ _ _ _ _ _ c.in_ok-sign-2.ensures, q.3)
 
 pub atom-returns-in_err-word : goal.atom-returns-in_err-word
 unfolding atom_of
@@ -325,4 +325,4 @@ pub arrow_next-returns : goal.arrow_next-returns
 unfolding chain_next run
 arrow_next-returns m c xs s arrow held =
     let a = c.in_ok-row.ensures xs held in
-    chain_claimed s _ c.args.self.now.text.now c.row.new.sheet xs a.0 c.in_ok-row.field-0 c.ok_or.result c.row.new.at (run_on _ _ _ _ _ _ (ap (λ b. run (arrow_behind b) c.args.self.now.text.now c.args.at.now) arrow ∙ c.in_ok-arrow_behind.ensures) ∙ run_on (disjunction c.args.self.now.names.now (nest c.args.self.now.names.now c.args.depth)) _ _ _ _ _ a.1) a.2 c.ok_or.ensures.value
+    chain_claimed s _ c.args.self.now.text.now c.row.new.draft.sheet xs a.0 c.in_ok-row.field-0 c.ok_or.result c.row.new.draft.at (run_on _ _ _ _ _ _ (ap (λ b. run (arrow_behind b) c.args.self.now.text.now c.args.draft.now.at) arrow ∙ c.in_ok-arrow_behind.ensures) ∙ run_on (disjunction c.args.self.now.names.now (nest c.args.self.now.names.now c.args.depth)) _ _ _ _ _ a.1) a.2 c.ok_or.ensures.value

@@ -12,15 +12,15 @@ use Rattle.text.proofs.source.Source.+formula_levels.Given as goal
 
 abbrev pub invariant-row_on-loop-turn : goal.invariant-row_on-loop-turn
 invariant-row_on-loop-turn l =
-    (xs : List ℤ) (p : Claim) → Behind xs l.from → ClaimShown l.initial.sheet xs p l.initial.claim →
-    (q : Claim) × (run (row_for 65536 (first_of l.row) (between_of l.row) (join_of l.row) (operand_of l.row l.self.names.now (nest l.self.names.now l.depth)) p) l.self.text.now l.initial.at ≡ run (row_for (65536 - l._turn) (first_of l.row) (between_of l.row) (join_of l.row) (operand_of l.row l.self.names.now (nest l.self.names.now l.depth)) q) l.self.text.now l.at) ×
-    ClaimShown l.sheet xs q l.claim
+    (xs : List ℤ) (p : Claim) → Behind xs l.from → ClaimShown l.initial.draft.sheet xs p l.initial.claim →
+    (q : Claim) × (run (row_for 65536 (first_of l.row) (between_of l.row) (join_of l.row) (operand_of l.row l.self.names.now (nest l.self.names.now l.depth)) p) l.self.text.now l.initial.draft.at ≡ run (row_for (65536 - l._turn) (first_of l.row) (between_of l.row) (join_of l.row) (operand_of l.row l.self.names.now (nest l.self.names.now l.depth)) q) l.self.text.now l.draft.at) ×
+    ClaimShown l.draft.sheet xs q l.claim
 
 abbrev pub invariant-chained-loop-turn : goal.invariant-chained-loop-turn
 invariant-chained-loop-turn l =
-    (xs : List ℤ) (p : Claim) → Behind xs l.initial.from → ClaimShown l.initial.sheet xs p l.initial.claim →
-    (s : Chain) × (run (chained (disjunction l.self.names.now (nest l.self.names.now l.depth)) p) l.self.text.now l.initial.at ≡ run (chain_for (65536 - l._turn) (disjunction l.self.names.now (nest l.self.names.now l.depth)) s >>= concluded) l.self.text.now l.at) ×
-    Behind (xs ++ chain_words s.before) l.from × ClaimShown l.sheet (xs ++ chain_words s.before) s.last l.claim
+    (xs : List ℤ) (p : Claim) → Behind xs l.initial.from → ClaimShown l.initial.draft.sheet xs p l.initial.claim →
+    (s : Chain) × (run (chained (disjunction l.self.names.now (nest l.self.names.now l.depth)) p) l.self.text.now l.initial.draft.at ≡ run (chain_for (65536 - l._turn) (disjunction l.self.names.now (nest l.self.names.now l.depth)) s >>= concluded) l.self.text.now l.draft.at) ×
+    Behind (xs ++ chain_words s.before) l.from × ClaimShown l.draft.sheet (xs ++ chain_words s.before) s.last l.claim
 
 -- how many calls a row may make before it comes to an atom
 abbrev pub height : Row → ℕ

@@ -31,7 +31,7 @@ added-returns m c xs t begins held =
     let p = c.in_ok-product.ensures (xs ++ term_words t) held in (
       record { term = Sum t p.0; arrow = false },
       goes_on _ _ _ _ _ _ c.in_ok-sign.ensures ∙ goes_on _ _ _ _ _ _ p.1,
-      (refl, c.insert.ensures xs (term_words t ++ term_words p.0) begins (regrouped c.product.new.sheet xs (term_words t) (term_words p.0) p.2)),
+      (refl, c.insert.ensures xs (term_words t ++ term_words p.0) begins (regrouped c.product.new.draft.sheet xs (term_words t) (term_words p.0) p.2)),
     )
 
 pub factor-returns-in_err-primary : goal.factor-returns-in_err-primary
@@ -111,7 +111,7 @@ unfolding plus_for
 plus-returns-then-c-ne45 m c xs t begins held =
     let i = c.loop-turn.invariant xs t begins held in (
       record { term = i.0; arrow = false },
-      i.1 ∙ while-ended begins_summand (plus_next c.args.self.now.names.now (nest c.args.self.now.names.now c.args.depth) c.args.may_arrow) _ (record { term = i.0; arrow = false }) c.args.self.now.text.now c.loop-turn.at
+      i.1 ∙ while-ended begins_summand (plus_next c.args.self.now.names.now (nest c.args.self.now.names.now c.args.depth) c.args.may_arrow) _ (record { term = i.0; arrow = false }) c.args.self.now.text.now c.loop-turn.draft.at
           (or_from _ _ (ne_eqb _ 43 (λ e. c.if-c-ne43.true (c.front-c.ensures ∙ e))) (ne_eqb _ 45 (λ e. c.if-c-ne45.true (c.front-c.ensures ∙ e)))),
       (refl, i.2),
     )
@@ -120,26 +120,26 @@ pub plus-returns-in_err-plus_next : goal.plus-returns-in_err-plus_next
 unfolding plus_for plus_next run
 plus-returns-in_err-plus_next m c xs t begins held =
     let i = c.loop-turn.invariant xs t begins held in
-    let sign-here : (eqb (get_or c.args.self.now.text.now c.loop-turn.at 0) 43 || eqb (get_or c.args.self.now.text.now c.loop-turn.at 0) 45) ≡ true =
+    let sign-here : (eqb (get_or c.args.self.now.text.now c.loop-turn.draft.at 0) 43 || eqb (get_or c.args.self.now.text.now c.loop-turn.draft.at 0) 45) ≡ true =
     elim c.else-c-ne43.branch [
       | plus-else-c-ne43-via-then-c-ne43+else-c-ne45 v ↦ or_right _ _ (eq-eqb _ 45 (sym c.front-c.ensures ∙ v.if-c-ne45.false))
       | plus-else-c-ne43-via-else-c-ne43 v ↦ or_left _ _ (eq-eqb _ 43 (sym c.front-c.ensures ∙ v.if-c-ne43.false))
     ] in
-    refused_by _ _ c.from_residual.result _ _ (i.1 ∙ while_stops begins_summand (plus_next c.args.self.now.names.now (nest c.args.self.now.names.now c.args.depth) c.args.may_arrow) 65536 c.loop-turn._turn (record { term = i.0; arrow = false }) c.args.self.now.text.now c.loop-turn.at _ c.loop-turn-test.true sign-here (c.in_err-plus_next.ensures xs i.0 begins i.2)) c.from_residual.ensures.1
+    refused_by _ _ c.from_residual.result _ _ (i.1 ∙ while_stops begins_summand (plus_next c.args.self.now.names.now (nest c.args.self.now.names.now c.args.depth) c.args.may_arrow) 65536 c.loop-turn._turn (record { term = i.0; arrow = false }) c.args.self.now.text.now c.loop-turn.draft.at _ c.loop-turn-test.true sign-here (c.in_err-plus_next.ensures xs i.0 begins i.2)) c.from_residual.ensures.1
 
 pub plus-returns-then-branch : goal.plus-returns-then-branch
 unfolding plus_for plus_next run
 plus-returns-then-branch m c xs t begins held =
     let i = c.loop-turn.invariant xs t begins held in
-    let sign-here : (eqb (get_or c.args.self.now.text.now c.loop-turn.at 0) 43 || eqb (get_or c.args.self.now.text.now c.loop-turn.at 0) 45) ≡ true =
+    let sign-here : (eqb (get_or c.args.self.now.text.now c.loop-turn.draft.at 0) 43 || eqb (get_or c.args.self.now.text.now c.loop-turn.draft.at 0) 45) ≡ true =
     elim c.else-c-ne43.branch [
       | plus-else-c-ne43-via-then-c-ne43+else-c-ne45 v ↦ or_right _ _ (eq-eqb _ 45 (sym c.front-c.ensures ∙ v.if-c-ne45.false))
       | plus-else-c-ne43-via-else-c-ne43 v ↦ or_left _ _ (eq-eqb _ 43 (sym c.front-c.ensures ∙ v.if-c-ne43.false))
     ] in
     let n = c.in_ok-plus_next.ensures xs i.0 begins i.2 in (
       n.0,
-      i.1 ∙ while_goes begins_summand (plus_next c.args.self.now.names.now (nest c.args.self.now.names.now c.args.depth) c.args.may_arrow) 65536 c.loop-turn._turn (record { term = i.0; arrow = false }) c.args.self.now.text.now c.loop-turn.at n.0 _ c.loop-turn-test.true sign-here n.1 ∙
-          while-ended begins_summand (plus_next c.args.self.now.names.now (nest c.args.self.now.names.now c.args.depth) c.args.may_arrow) _ n.0 c.args.self.now.text.now c.plus_next.new.at (and_left _ _ (ap not (n.2.0 ∙ c.if-branch.true))),
+      i.1 ∙ while_goes begins_summand (plus_next c.args.self.now.names.now (nest c.args.self.now.names.now c.args.depth) c.args.may_arrow) 65536 c.loop-turn._turn (record { term = i.0; arrow = false }) c.args.self.now.text.now c.loop-turn.draft.at n.0 _ c.loop-turn-test.true sign-here n.1 ∙
+          while-ended begins_summand (plus_next c.args.self.now.names.now (nest c.args.self.now.names.now c.args.depth) c.args.may_arrow) _ n.0 c.args.self.now.text.now c.plus_next.new.draft.at (and_left _ _ (ap not (n.2.0 ∙ c.if-branch.true))),
       (n.2.0 ∙ c.if-branch.true, n.2.1),
     )
 
@@ -147,15 +147,15 @@ pub plus-loop-turn-preserved : goal.plus-loop-turn-preserved
 unfolding plus_for plus_next run
 plus-loop-turn-preserved m c xs t begins held =
     let i = c.loop-turn.invariant xs t begins held in
-    let sign-here : (eqb (get_or c.args.self.now.text.now c.loop-turn.at 0) 43 || eqb (get_or c.args.self.now.text.now c.loop-turn.at 0) 45) ≡ true =
+    let sign-here : (eqb (get_or c.args.self.now.text.now c.loop-turn.draft.at 0) 43 || eqb (get_or c.args.self.now.text.now c.loop-turn.draft.at 0) 45) ≡ true =
     elim c.else-c-ne43.branch [
       | plus-else-c-ne43-via-then-c-ne43+else-c-ne45 v ↦ or_right _ _ (eq-eqb _ 45 (sym c.front-c.ensures ∙ v.if-c-ne45.false))
       | plus-else-c-ne43-via-else-c-ne43 v ↦ or_left _ _ (eq-eqb _ 43 (sym c.front-c.ensures ∙ v.if-c-ne43.false))
     ] in
     let n = c.in_ok-plus_next.ensures xs i.0 begins i.2 in (
       n.0.term,
-      i.1 ∙ while_goes begins_summand (plus_next c.args.self.now.names.now (nest c.args.self.now.names.now c.args.depth) c.args.may_arrow) 65536 c.loop-turn._turn (record { term = i.0; arrow = false }) c.args.self.now.text.now c.loop-turn.at n.0 _ c.loop-turn-test.true sign-here n.1 ∙
-          ap (λ b. run (plus_for (65536 - (c.loop-turn._turn + 1)) c.args.self.now.names.now (nest c.args.self.now.names.now c.args.depth) c.args.may_arrow (record { term = n.0.term; arrow = b })) c.args.self.now.text.now c.plus_next.new.at) (n.2.0 ∙ c.if-branch.false),
+      i.1 ∙ while_goes begins_summand (plus_next c.args.self.now.names.now (nest c.args.self.now.names.now c.args.depth) c.args.may_arrow) 65536 c.loop-turn._turn (record { term = i.0; arrow = false }) c.args.self.now.text.now c.loop-turn.draft.at n.0 _ c.loop-turn-test.true sign-here n.1 ∙
+          ap (λ b. run (plus_for (65536 - (c.loop-turn._turn + 1)) c.args.self.now.names.now (nest c.args.self.now.names.now c.args.depth) c.args.may_arrow (record { term = n.0.term; arrow = b })) c.args.self.now.text.now c.plus_next.new.draft.at) (n.2.0 ∙ c.if-branch.false),
       n.2.1,
     )
 
@@ -163,7 +163,7 @@ pub plus-returns : goal.plus-returns
 unfolding plus_for
 plus-returns m c xs t begins held =
     let i = c.loop-turn.invariant xs t begins held in
-    (record { term = i.0; arrow = false }, i.1 ∙ while-over begins_summand (plus_next c.args.self.now.names.now (nest c.args.self.now.names.now c.args.depth) c.args.may_arrow) 65536 c.loop-turn._turn (record { term = i.0; arrow = false }) c.args.self.now.text.now c.loop-turn.at c.loop-turn-test.false, (refl, i.2))
+    (record { term = i.0; arrow = false }, i.1 ∙ while-over begins_summand (plus_next c.args.self.now.names.now (nest c.args.self.now.names.now c.args.depth) c.args.may_arrow) 65536 c.loop-turn._turn (record { term = i.0; arrow = false }) c.args.self.now.text.now c.loop-turn.draft.at c.loop-turn-test.false, (refl, i.2))
 
 pub plus_next-returns-then-front-eq43 : goal.plus_next-returns-then-front-eq43
 unfolding summand_of
@@ -259,26 +259,26 @@ pub times-returns-then-front-ne42 : goal.times-returns-then-front-ne42
 unfolding times_for
 times-returns-then-front-ne42 m c xs t begins held =
     let i = c.loop-turn.invariant xs t begins held in
-    (i.0, i.1 ∙ while-ended (λ _ d. eqb d 42) (times_next c.args.self.now.names.now (nest c.args.self.now.names.now c.args.depth)) _ i.0 c.args.self.now.text.now c.loop-turn.at (ne_eqb _ 42 (λ e. c.if-front-ne42.true (c.front.ensures ∙ e))), i.2)
+    (i.0, i.1 ∙ while-ended (λ _ d. eqb d 42) (times_next c.args.self.now.names.now (nest c.args.self.now.names.now c.args.depth)) _ i.0 c.args.self.now.text.now c.loop-turn.draft.at (ne_eqb _ 42 (λ e. c.if-front-ne42.true (c.front.ensures ∙ e))), i.2)
 
 pub times-returns-in_err-times_next : goal.times-returns-in_err-times_next
 unfolding times_for
 times-returns-in_err-times_next m c xs t begins held =
     let i = c.loop-turn.invariant xs t begins held in
-    refused_by _ _ c.from_residual.result _ _ (i.1 ∙ while_stops (λ _ d. eqb d 42) (times_next c.args.self.now.names.now (nest c.args.self.now.names.now c.args.depth)) 65536 c.loop-turn._turn i.0 c.args.self.now.text.now c.loop-turn.at _ c.loop-turn-test.true (eq-eqb _ 42 (sym c.front.ensures ∙ c.if-front-ne42.false)) (c.in_err-times_next.ensures xs i.0 begins i.2)) c.from_residual.ensures.1
+    refused_by _ _ c.from_residual.result _ _ (i.1 ∙ while_stops (λ _ d. eqb d 42) (times_next c.args.self.now.names.now (nest c.args.self.now.names.now c.args.depth)) 65536 c.loop-turn._turn i.0 c.args.self.now.text.now c.loop-turn.draft.at _ c.loop-turn-test.true (eq-eqb _ 42 (sym c.front.ensures ∙ c.if-front-ne42.false)) (c.in_err-times_next.ensures xs i.0 begins i.2)) c.from_residual.ensures.1
 
 pub times-loop-turn-preserved : goal.times-loop-turn-preserved
 unfolding times_for
 times-loop-turn-preserved m c xs t begins held =
     let i = c.loop-turn.invariant xs t begins held in
     let n = c.in_ok-times_next.ensures xs i.0 begins i.2 in
-    (n.0, i.1 ∙ while_goes (λ _ d. eqb d 42) (times_next c.args.self.now.names.now (nest c.args.self.now.names.now c.args.depth)) 65536 c.loop-turn._turn i.0 c.args.self.now.text.now c.loop-turn.at n.0 _ c.loop-turn-test.true (eq-eqb _ 42 (sym c.front.ensures ∙ c.if-front-ne42.false)) n.1, n.2)
+    (n.0, i.1 ∙ while_goes (λ _ d. eqb d 42) (times_next c.args.self.now.names.now (nest c.args.self.now.names.now c.args.depth)) 65536 c.loop-turn._turn i.0 c.args.self.now.text.now c.loop-turn.draft.at n.0 _ c.loop-turn-test.true (eq-eqb _ 42 (sym c.front.ensures ∙ c.if-front-ne42.false)) n.1, n.2)
 
 pub times-returns : goal.times-returns
 unfolding times_for
 times-returns m c xs t begins held =
     let i = c.loop-turn.invariant xs t begins held in
-    (i.0, i.1 ∙ while-over (λ _ d. eqb d 42) (times_next c.args.self.now.names.now (nest c.args.self.now.names.now c.args.depth)) 65536 c.loop-turn._turn i.0 c.args.self.now.text.now c.loop-turn.at c.loop-turn-test.false, i.2)
+    (i.0, i.1 ∙ while-over (λ _ d. eqb d 42) (times_next c.args.self.now.names.now (nest c.args.self.now.names.now c.args.depth)) 65536 c.loop-turn._turn i.0 c.args.self.now.text.now c.loop-turn.draft.at c.loop-turn-test.false, i.2)
 
 pub times_next-returns-in_err-sign : goal.times_next-returns-in_err-sign
 unfolding times_next
@@ -296,5 +296,5 @@ times_next-returns m c xs t begins held =
     let p = c.in_ok-factor.ensures (xs ++ term_words t) held in (
       Product t p.0,
       goes_on _ _ _ _ _ _ c.in_ok-sign.ensures ∙ goes_on _ _ _ _ _ _ p.1,
-      c.insert.ensures xs (term_words t ++ term_words p.0) begins (regrouped c.factor.new.sheet xs (term_words t) (term_words p.0) p.2),
+      c.insert.ensures xs (term_words t ++ term_words p.0) begins (regrouped c.factor.new.draft.sheet xs (term_words t) (term_words p.0) p.2),
     )
