@@ -88,8 +88,12 @@ summand_of names deeper may_arrow s c = cond (c == 43) (added names deeper s) (P
 unfoldable pub plus_next : List Word → Nest → Bool → Summed → Reader Summed
 plus_next names deeper may_arrow s = Look (summand_of names deeper may_arrow s.term)
 
+-- a plus or a minus
+abbrev pub is_summand_sign : ℕ → Bool
+is_summand_sign c = c == 43 || c == 45
+
 abbrev pub begins_summand : Summed → ℕ → Bool
-begins_summand s c = not s.arrow && (c == 43 || c == 45)
+begins_summand s c = not s.arrow && is_summand_sign c
 
 -- the summands behind a first one, at most n
 unfoldable pub plus_for : ℕ → List Word → Nest → Bool → Summed → Reader Summed

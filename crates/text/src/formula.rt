@@ -157,20 +157,21 @@ impl Source<'_> {
         ensures { WritesPiece self.now (atom_of self.now.names.now (nest self.now.names.now depth) (slice_index self.now.text.now draft.old.at)) result draft.old draft.new }
     {
         let from = draft.sheet.count;
-        let c = self.front(draft.at);
-        if is_letter(c) {
-            let word = self.letters(&mut draft.at)?;
-            return self.from_word(draft, depth, word);
+        match self.front(draft.at) {
+            b'(' => self.enclosed(draft, depth),
+            b'-' => {
+                self.negated(draft, depth)?;
+                self.from_product(draft, depth, from)
+            }
+            c if is_letter(c) => {
+                let word = self.letters(&mut draft.at)?;
+                self.from_word(draft, depth, word)
+            }
+            _ => {
+                self.primary(draft, depth)?;
+                self.from_primary(draft, depth, from)
+            }
         }
-        if c == b'(' {
-            return self.enclosed(draft, depth);
-        }
-        if c == b'-' {
-            self.negated(draft, depth)?;
-            return self.from_product(draft, depth, from);
-        }
-        self.primary(draft, depth)?;
-        self.from_primary(draft, depth, from)
     }
 
     // What joins a row.

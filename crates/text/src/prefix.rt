@@ -1,7 +1,7 @@
 // The quantifiers of a sentence, with their names.
 ghost use Rattle.std.specs.Prelude.{◌≡◌, ◌+◌, ◌≤◌, slice_index};
 ghost use Rattle.grammar.specs.Reader.{run};
-ghost use Rattle.grammar.specs.Text.{quantifier_of, prefix_next, quantifiers};
+ghost use Rattle.grammar.specs.Text.{quantifier_of, prefix_next, is_quantifier_letter, quantifiers};
 ghost use Rattle.grammar.specs.Tokens.{new_name};
 ghost use Rattle.text.specs.Outcome.{outcome_of};
 ghost use Rattle.text.specs.Prefix.{prefix_of, Longer, PrefixRead, PrefixReads};
@@ -81,6 +81,13 @@ fn prefix_next(text: &[u8], at: &mut usize, prefix: Prefix) -> Result<Prefix, Fa
     Ok(longer(prefix, every, name))
 }
 
+// Whether a quantifier begins like this.
+fn begins_quantifier(c: u8) -> bool
+    ensures { result ≡ is_quantifier_letter c }
+{
+    matches!(c, b'e' | b's')
+}
+
 // At most four quantifiers.
 pub fn quantifiers(text: &[u8], at: &mut usize) -> Result<Prefix, Fault>
     ensures { PrefixReads (run quantifiers text.now at.old) result at.new }
@@ -96,8 +103,7 @@ pub fn quantifiers(text: &[u8], at: &mut usize) -> Result<Prefix, Fault>
     };
     let source = Source { text, names: &[] };
     for _turn in 0..4usize {
-        let c = source.front(*at);
-        if c != b'e' && c != b's' {
+        if !begins_quantifier(source.front(*at)) {
             return Ok(prefix);
         }
         prefix = prefix_next(text, at, prefix)?;

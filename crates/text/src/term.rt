@@ -4,7 +4,7 @@ ghost use Rattle.std.specs.Str.{bytes_eq};
 ghost use Rattle.grammar.specs.Characters.{is_reserved};
 ghost use Rattle.grammar.specs.Nesting.{nest};
 ghost use Rattle.grammar.specs.Reader.{run};
-ghost use Rattle.grammar.specs.Terms.{named, grouped, primary_of, raised, factor, times_next, times, product, taken, added, summand_of, plus, negated, leading_of, sum};
+ghost use Rattle.grammar.specs.Terms.{named, grouped, primary_of, raised, factor, times_next, times, product, taken, added, summand_of, is_summand_sign, plus, negated, leading_of, sum};
 ghost use Rattle.text.specs.Reads.{WritesTerm, ExtendsTerm, WritesSum, ExtendsSum};
 
 use crate::character::{is_digit, is_letter};
@@ -29,6 +29,13 @@ pub fn is_reserved(word: Word) -> bool
         || is_word(word, b"and\0\0\0\0\0")
         || is_word(word, b"or\0\0\0\0\0\0")
         || is_word(word, b"not\0\0\0\0\0")
+}
+
+// Whether a summand more begins like this.
+fn begins_summand(c: u8) -> bool
+    ensures { result ≡ is_summand_sign c }
+{
+    matches!(c, b'+' | b'-')
 }
 
 impl Source<'_> {
@@ -66,18 +73,19 @@ impl Source<'_> {
     pub fn primary(&self, draft: &mut Draft, depth: usize) -> Result<(), Fault>
         ensures { WritesTerm self.now (primary_of self.now.names.now (nest self.now.names.now depth) (slice_index self.now.text.now draft.old.at)) result draft.old draft.new }
     {
-        let c = self.front(draft.at);
-        if is_letter(c) {
-            let word = self.letters(&mut draft.at)?;
-            return self.named(draft, word);
+        match self.front(draft.at) {
+            c if is_letter(c) => {
+                let word = self.letters(&mut draft.at)?;
+                self.named(draft, word)
+            }
+            c if is_digit(c) => {
+                let number = self.number(&mut draft.at);
+                draft.sheet.put(7);
+                draft.sheet.put(number as i64);
+                Ok(())
+            }
+            _ => self.group(draft, depth),
         }
-        if is_digit(c) {
-            let number = self.number(&mut draft.at);
-            draft.sheet.put(7);
-            draft.sheet.put(number as i64);
-            return Ok(());
-        }
-        self.group(draft, depth)
     }
 
     #[cycle(term_levels)]
@@ -199,8 +207,7 @@ impl Source<'_> {
         ensures { ExtendsSum self.now (plus self.now.names.now (nest self.now.names.now depth) may_arrow) result from draft.old draft.new }
     {
         for _turn in 0..LONGEST {
-            let c = self.front(draft.at);
-            if c != b'+' && c != b'-' {
+            if !begins_summand(self.front(draft.at)) {
                 return Ok(false);
             }
             if self.plus_next(draft, depth, may_arrow, from)? {

@@ -1,5 +1,5 @@
 -- Each level of a formula, by the levels that it calls.
-use Rattle.std.proofs.Common.{◌≡◌, min, true, false, not, ◌&&◌, ◌||◌, eqb, [], ◌∷◌, ◌++◌, length, get_or, pos, sym, refl, ap, ◌∙◌, append-nil}
+use Rattle.std.proofs.Common.{arith, ◌≡◌, min, true, false, not, ◌&&◌, ◌||◌, eqb, [], ◌∷◌, ◌++◌, length, get_or, pos, sym, refl, ap, ◌∙◌, append-nil}
 use Rattle.std.proofs.Math.Bool.{not-not}
 use Rattle.std.proofs.lemmas.Bool.{eq-eqb, ne_eqb, and_from, and_left, and_right, or_from, or_left, or_right}
 use Rattle.field.specs.Sentence.{Not}
@@ -284,45 +284,45 @@ enclosed-returns-in-Some m c xs held =
     let q = claims c.row.new.draft.sheet xs a.0 c.in_ok-piece.piece c.in-Some.claim c.args.self.now.text.now c.row.new.draft.at a.2 c.in-Some.is in
     (OfClaim q.0, run_on _ _ _ _ _ _ c.in_ok-sign.ensures ∙ run_on _ _ _ _ _ _ (ap (λ r. run r c.args.self.now.text.now c.sign.new.at) (deeper_formula c.args.self.now.names.now c.args.depth c.if-depth-eq0.false) ∙ a.1 ∙ ap (λ z. Read z c.row.new.draft.at) q.1) ∙ run_on _ _ _ _ _ _ c.in_ok-sign-2.ensures, q.3)
 
-pub atom-returns-in_err-word : goal.atom-returns-in_err-word
-unfolding atom_of
-atom-returns-in_err-word m c xs held =
-    refused_by _ _ c.from_residual.result _ _ (chose _ _ _ _ _ (ap is_letter (sym c.front-c.ensures) ∙ sym c.if-is_letter.ensures) ∙ stops _ _ _ _ _ c.in_err-word.ensures) c.from_residual.ensures.1
-
-pub atom-returns-then-is_letter : goal.atom-returns-then-is_letter
-unfolding atom_of
-atom-returns-then-is_letter m c xs held =
-    read_by _ _ _ c.from_word.result _ (chose _ _ _ _ _ (ap is_letter (sym c.front-c.ensures) ∙ sym c.if-is_letter.ensures) ∙ run_on _ _ _ _ _ _ c.in_ok-word.ensures) (c.from_word.ensures xs held)
-
-pub atom-returns-then-c-eq40 : goal.atom-returns-then-c-eq40
-unfolding atom_of
-atom-returns-then-c-eq40 m c xs held =
-    read_by _ _ _ c.enclosed.result _ (passed_over _ _ _ _ _ (ap is_letter (sym c.front-c.ensures) ∙ sym c.if-is_letter.ensures) ∙ chose _ _ _ _ _ (eq-eqb _ 40 (sym c.front-c.ensures ∙ c.if-c-eq40.true))) (c.enclosed.ensures xs held)
-
-pub atom-returns-in_err-negated : goal.atom-returns-in_err-negated
-unfolding atom_of
-atom-returns-in_err-negated m c xs held =
-    refused_by _ _ c.from_residual-in_err-negated.result _ _ (passed_over _ _ _ _ _ (ap is_letter (sym c.front-c.ensures) ∙ sym c.if-is_letter.ensures) ∙ passed_over _ _ _ _ _ (ne_eqb _ 40 (λ e. c.if-c-eq40.false (c.front-c.ensures ∙ e))) ∙ chose _ _ _ _ _ (eq-eqb _ 45 (sym c.front-c.ensures ∙ c.if-c-eq45.true)) ∙ stops _ _ _ _ _ (c.in_err-negated.ensures xs held)) c.from_residual-in_err-negated.ensures.1
-
-pub atom-returns-then-c-eq45 : goal.atom-returns-then-c-eq45
-unfolding atom_of
-atom-returns-then-c-eq45 m c xs held =
-    let t = c.in_ok-negated.ensures xs held in
-    read_by _ _ _ c.from_product.result _ (passed_over _ _ _ _ _ (ap is_letter (sym c.front-c.ensures) ∙ sym c.if-is_letter.ensures) ∙ passed_over _ _ _ _ _ (ne_eqb _ 40 (λ e. c.if-c-eq40.false (c.front-c.ensures ∙ e))) ∙ chose _ _ _ _ _ (eq-eqb _ 45 (sym c.front-c.ensures ∙ c.if-c-eq45.true)) ∙ run_on _ _ _ _ _ _ t.1) (c.from_product.ensures xs t.0 held.counted t.2)
-
-pub atom-returns-in_err-primary : goal.atom-returns-in_err-primary
-unfolding atom_of
-atom-returns-in_err-primary m c xs held =
-    refused_by _ _ c.from_residual-in_err-primary.result _ _ (passed_over _ _ _ _ _ (ap is_letter (sym c.front-c.ensures) ∙ sym c.if-is_letter.ensures) ∙ passed_over _ _ _ _ _ (ne_eqb _ 40 (λ e. c.if-c-eq40.false (c.front-c.ensures ∙ e))) ∙ passed_over _ _ _ _ _ (ne_eqb _ 45 (λ e. c.if-c-eq45.false (c.front-c.ensures ∙ e))) ∙ stops _ _ _ _ _ (c.in_err-primary.ensures xs held)) c.from_residual-in_err-primary.ensures.1
-
-pub atom-returns : goal.atom-returns
-unfolding atom_of
-atom-returns m c xs held =
-    let t = c.in_ok-primary.ensures xs held in
-    read_by _ _ _ c.from_primary.result _ (passed_over _ _ _ _ _ (ap is_letter (sym c.front-c.ensures) ∙ sym c.if-is_letter.ensures) ∙ passed_over _ _ _ _ _ (ne_eqb _ 40 (λ e. c.if-c-eq40.false (c.front-c.ensures ∙ e))) ∙ passed_over _ _ _ _ _ (ne_eqb _ 45 (λ e. c.if-c-eq45.false (c.front-c.ensures ∙ e))) ∙ run_on _ _ _ _ _ _ t.1) (c.from_primary.ensures xs t.0 held.counted t.2)
-
 pub arrow_next-returns : goal.arrow_next-returns
 unfolding chain_next run
 arrow_next-returns m c xs s arrow held =
     let a = c.in_ok-row.ensures xs held in
     chain_claimed s _ c.args.self.now.text.now c.row.new.draft.sheet xs a.0 c.in_ok-row.field-0 c.ok_or.result c.row.new.draft.at (run_on _ _ _ _ _ _ (ap (λ b. run (arrow_behind b) c.args.self.now.text.now c.args.draft.now.at) arrow ∙ c.in_ok-arrow_behind.ensures) ∙ run_on (disjunction c.args.self.now.names.now (nest c.args.self.now.names.now c.args.depth)) _ _ _ _ _ a.1) a.2 c.ok_or.ensures.value
+
+pub atom-returns-in-40 : goal.atom-returns-in-40
+unfolding atom_of
+atom-returns-in-40 m c xs held =
+    read_by _ _ _ c.enclosed.result _ (ap (λ d. run (atom_of c.args.self.now.names.now (nest c.args.self.now.names.now c.args.depth) d) c.args.self.now.text.now c.args.draft.now.at) (sym c.front.ensures ∙ c.in-40.is)) (c.enclosed.ensures xs held)
+
+pub atom-returns-in_err-negated-in-45 : goal.atom-returns-in_err-negated-in-45
+unfolding atom_of
+atom-returns-in_err-negated-in-45 m c xs held =
+    refused_by _ _ c.from_residual.result _ _ (ap (λ d. run (atom_of c.args.self.now.names.now (nest c.args.self.now.names.now c.args.depth) d) c.args.self.now.text.now c.args.draft.now.at) (sym c.front.ensures ∙ c.in-45.is) ∙ stops _ _ _ _ _ (c.in_err-negated-in-45.ensures xs held)) c.from_residual.ensures.1
+
+pub atom-returns-in_ok-negated-in-45 : goal.atom-returns-in_ok-negated-in-45
+unfolding atom_of
+atom-returns-in_ok-negated-in-45 m c xs held =
+    let t = c.in_ok-negated-in-45.ensures xs held in
+    read_by _ _ _ c.from_product.result _ (ap (λ d. run (atom_of c.args.self.now.names.now (nest c.args.self.now.names.now c.args.depth) d) c.args.self.now.text.now c.args.draft.now.at) (sym c.front.ensures ∙ c.in-45.is) ∙ run_on _ _ _ _ _ _ t.1) (c.from_product.ensures xs t.0 held.counted t.2)
+
+pub atom-returns-in_err-word-in_default : goal.atom-returns-in_err-word-in_default
+unfolding atom_of
+atom-returns-in_err-word-in_default m c xs held =
+    refused_by _ _ c.from_residual-in_err-word-in_default.result _ _ (chose _ _ _ _ _ (ap is_letter (sym c.front.ensures) ∙ sym c.if-is_letter.ensures) ∙ stops _ _ _ _ _ c.in_err-word-in_default.ensures) c.from_residual-in_err-word-in_default.ensures.1
+
+pub atom-returns-in_ok-word-in_default : goal.atom-returns-in_ok-word-in_default
+unfolding atom_of
+atom-returns-in_ok-word-in_default m c xs held =
+    read_by _ _ _ c.from_word.result _ (chose _ _ _ _ _ (ap is_letter (sym c.front.ensures) ∙ sym c.if-is_letter.ensures) ∙ run_on _ _ _ _ _ _ c.in_ok-word-in_default.ensures) (c.from_word.ensures xs held)
+
+pub atom-returns-in_err-primary-in_default-2 : goal.atom-returns-in_err-primary-in_default-2
+unfolding atom_of
+atom-returns-in_err-primary-in_default-2 m c xs held =
+    refused_by _ _ c.from_residual-in_err-primary-in_default-2.result _ _ (passed_over _ _ _ _ _ (ap is_letter (sym c.front.ensures) ∙ sym c.if-is_letter.ensures) ∙ passed_over _ _ _ _ _ (ne_eqb (get_or c.args.self.now.text.now c.args.draft.now.at 0) 40 (λ e. omega (arith, c.front.ensures, e))) ∙ passed_over _ _ _ _ _ (ne_eqb (get_or c.args.self.now.text.now c.args.draft.now.at 0) 45 (λ e. omega (arith, c.front.ensures, e))) ∙ stops _ _ _ _ _ (c.in_err-primary-in_default-2.ensures xs held)) c.from_residual-in_err-primary-in_default-2.ensures.1
+
+pub atom-returns-in_ok-primary-in_default-2 : goal.atom-returns-in_ok-primary-in_default-2
+unfolding atom_of
+atom-returns-in_ok-primary-in_default-2 m c xs held =
+    let t = c.in_ok-primary-in_default-2.ensures xs held in
+    read_by _ _ _ c.from_primary.result _ (passed_over _ _ _ _ _ (ap is_letter (sym c.front.ensures) ∙ sym c.if-is_letter.ensures) ∙ passed_over _ _ _ _ _ (ne_eqb (get_or c.args.self.now.text.now c.args.draft.now.at 0) 40 (λ e. omega (arith, c.front.ensures, e))) ∙ passed_over _ _ _ _ _ (ne_eqb (get_or c.args.self.now.text.now c.args.draft.now.at 0) 45 (λ e. omega (arith, c.front.ensures, e))) ∙ run_on _ _ _ _ _ _ t.1) (c.from_primary.ensures xs t.0 held.counted t.2)

@@ -1,19 +1,19 @@
 -- Each level of a term, by the levels that it calls.
-use Rattle.std.proofs.Common.{◌≡◌, ◌+◌, ◌-◌, true, false, not, ◌&&◌, ◌||◌, eqb, [], ◌∷◌, ◌++◌, get_or, pos, sym, refl, ap, ◌∙◌, w64, SFits, rules}
+use Rattle.std.proofs.Common.{◌≡◌, ◌+◌, ◌-◌, true, false, not, ◌&&◌, eqb, [], ◌∷◌, ◌++◌, get_or, pos, sym, refl, ap, ◌∙◌, w64, SFits, rules}
 use Rattle.std.proofs.lemmas.Int.{to_z-of_z}
-use Rattle.std.proofs.lemmas.Bool.{eq-eqb, ne_eqb, and_from, and_left, and_right, or_from, or_left, or_right}
+use Rattle.std.proofs.lemmas.Bool.{eq-eqb, ne_eqb, and_from, and_left, and_right}
 use Rattle.field.specs.Sentence.{Num, Sum, Product}
 use Rattle.grammar.specs.Characters.{is_letter, is_digit}
 use Rattle.grammar.specs.Meaning.{negative, difference, term_words}
 use Rattle.grammar.specs.Nesting.{nest}
 use Rattle.grammar.specs.Reader.{run, Look}
-use Rattle.grammar.specs.Terms.{grouped, primary_of, factor, times_next, times_for, product, taken, taken_of, added, summand_of, plus_next, begins_summand, plus_for, plus, negated, leading_of, sum}
+use Rattle.grammar.specs.Terms.{grouped, primary_of, factor, times_next, times_for, product, taken, taken_of, added, summand_of, plus_next, is_summand_sign, begins_summand, plus_for, plus, negated, leading_of, sum}
 use Rattle.grammar.specs.Tokens.{sign}
 use Rattle.grammar.proofs.Runs.{goes_on, stops, while_goes, while_stops, while-ended, while-over}
 use Rattle.text.proofs.Sheets.{same_words}
 use Rattle.text.proofs.Steps.{read_by, refused_by, chose, passed_over, closes, no_deeper_sum, deeper_sum, no_deeper_product, deeper_product, regrouped}
 use Rattle.text.proofs.source.Source.+term_levels.Goals as goal
-use Rattle.text.proofs.source.Source.+term_levels.Goals.{plus-else-c-ne43-via-then-c-ne43+else-c-ne45, plus-else-c-ne43-via-else-c-ne43, plus_next-else-may_arrow-via-then-may_arrow+else-front-eq62, plus_next-else-may_arrow-via-else-may_arrow}
+use Rattle.text.proofs.source.Source.+term_levels.Goals.{plus_next-else-may_arrow-via-then-may_arrow+else-front-eq62, plus_next-else-may_arrow-via-else-may_arrow}
 
 pub added-returns-in_err-sign : goal.added-returns-in_err-sign
 unfolding added
@@ -106,13 +106,13 @@ unfolding plus
 plus-loop-turn-init m c xs t begins held =
     (t, refl, held)
 
-pub plus-returns-then-c-ne45 : goal.plus-returns-then-c-ne45
+pub plus-returns-then-not-begins_summand : goal.plus-returns-then-not-begins_summand
 unfolding plus_for
-plus-returns-then-c-ne45 m c xs t begins held =
+plus-returns-then-not-begins_summand m c xs t begins held =
     let i = c.loop-turn.invariant xs t begins held in (
       record { term = i.0; arrow = false },
       i.1 ∙ while-ended begins_summand (plus_next c.args.self.now.names.now (nest c.args.self.now.names.now c.args.depth) c.args.may_arrow) _ (record { term = i.0; arrow = false }) c.args.self.now.text.now c.loop-turn.draft.at
-          (or_from _ _ (ne_eqb _ 43 (λ e. c.if-c-ne43.true (c.front-c.ensures ∙ e))) (ne_eqb _ 45 (λ e. c.if-c-ne45.true (c.front-c.ensures ∙ e)))),
+          (ap is_summand_sign (sym c.front.ensures) ∙ sym c.if-not-begins_summand.ensures),
       (refl, i.2),
     )
 
@@ -120,22 +120,14 @@ pub plus-returns-in_err-plus_next : goal.plus-returns-in_err-plus_next
 unfolding plus_for plus_next run
 plus-returns-in_err-plus_next m c xs t begins held =
     let i = c.loop-turn.invariant xs t begins held in
-    let sign-here : (eqb (get_or c.args.self.now.text.now c.loop-turn.draft.at 0) 43 || eqb (get_or c.args.self.now.text.now c.loop-turn.draft.at 0) 45) ≡ true =
-    elim c.else-c-ne43.branch [
-      | plus-else-c-ne43-via-then-c-ne43+else-c-ne45 v ↦ or_right _ _ (eq-eqb _ 45 (sym c.front-c.ensures ∙ v.if-c-ne45.false))
-      | plus-else-c-ne43-via-else-c-ne43 v ↦ or_left _ _ (eq-eqb _ 43 (sym c.front-c.ensures ∙ v.if-c-ne43.false))
-    ] in
+    let sign-here = ap is_summand_sign (sym c.front.ensures) ∙ sym c.if-not-begins_summand.ensures in
     refused_by _ _ c.from_residual.result _ _ (i.1 ∙ while_stops begins_summand (plus_next c.args.self.now.names.now (nest c.args.self.now.names.now c.args.depth) c.args.may_arrow) 65536 c.loop-turn._turn (record { term = i.0; arrow = false }) c.args.self.now.text.now c.loop-turn.draft.at _ c.loop-turn-test.true sign-here (c.in_err-plus_next.ensures xs i.0 begins i.2)) c.from_residual.ensures.1
 
 pub plus-returns-then-branch : goal.plus-returns-then-branch
 unfolding plus_for plus_next run
 plus-returns-then-branch m c xs t begins held =
     let i = c.loop-turn.invariant xs t begins held in
-    let sign-here : (eqb (get_or c.args.self.now.text.now c.loop-turn.draft.at 0) 43 || eqb (get_or c.args.self.now.text.now c.loop-turn.draft.at 0) 45) ≡ true =
-    elim c.else-c-ne43.branch [
-      | plus-else-c-ne43-via-then-c-ne43+else-c-ne45 v ↦ or_right _ _ (eq-eqb _ 45 (sym c.front-c.ensures ∙ v.if-c-ne45.false))
-      | plus-else-c-ne43-via-else-c-ne43 v ↦ or_left _ _ (eq-eqb _ 43 (sym c.front-c.ensures ∙ v.if-c-ne43.false))
-    ] in
+    let sign-here = ap is_summand_sign (sym c.front.ensures) ∙ sym c.if-not-begins_summand.ensures in
     let n = c.in_ok-plus_next.ensures xs i.0 begins i.2 in (
       n.0,
       i.1 ∙ while_goes begins_summand (plus_next c.args.self.now.names.now (nest c.args.self.now.names.now c.args.depth) c.args.may_arrow) 65536 c.loop-turn._turn (record { term = i.0; arrow = false }) c.args.self.now.text.now c.loop-turn.draft.at n.0 _ c.loop-turn-test.true sign-here n.1 ∙
@@ -147,11 +139,7 @@ pub plus-loop-turn-preserved : goal.plus-loop-turn-preserved
 unfolding plus_for plus_next run
 plus-loop-turn-preserved m c xs t begins held =
     let i = c.loop-turn.invariant xs t begins held in
-    let sign-here : (eqb (get_or c.args.self.now.text.now c.loop-turn.draft.at 0) 43 || eqb (get_or c.args.self.now.text.now c.loop-turn.draft.at 0) 45) ≡ true =
-    elim c.else-c-ne43.branch [
-      | plus-else-c-ne43-via-then-c-ne43+else-c-ne45 v ↦ or_right _ _ (eq-eqb _ 45 (sym c.front-c.ensures ∙ v.if-c-ne45.false))
-      | plus-else-c-ne43-via-else-c-ne43 v ↦ or_left _ _ (eq-eqb _ 43 (sym c.front-c.ensures ∙ v.if-c-ne43.false))
-    ] in
+    let sign-here = ap is_summand_sign (sym c.front.ensures) ∙ sym c.if-not-begins_summand.ensures in
     let n = c.in_ok-plus_next.ensures xs i.0 begins i.2 in (
       n.0.term,
       i.1 ∙ while_goes begins_summand (plus_next c.args.self.now.names.now (nest c.args.self.now.names.now c.args.depth) c.args.may_arrow) 65536 c.loop-turn._turn (record { term = i.0; arrow = false }) c.args.self.now.text.now c.loop-turn.draft.at n.0 _ c.loop-turn-test.true sign-here n.1 ∙
@@ -195,9 +183,9 @@ unfolding primary_of
 primary-returns-in_err-word m c xs held =
     refused_by _ _ c.from_residual.result _ _ (chose _ _ _ _ _ (ap is_letter (sym c.front-c.ensures) ∙ sym c.if-is_letter.ensures) ∙ stops _ _ _ _ _ c.in_err-word.ensures) c.from_residual.ensures.1
 
-pub primary-returns-then-is_letter : goal.primary-returns-then-is_letter
+pub primary-returns-in_ok-word : goal.primary-returns-in_ok-word
 unfolding primary_of
-primary-returns-then-is_letter m c xs held =
+primary-returns-in_ok-word m c xs held =
     read_by _ _ _ c.named.result _ (chose _ _ _ _ _ (ap is_letter (sym c.front-c.ensures) ∙ sym c.if-is_letter.ensures) ∙ goes_on _ _ _ _ _ _ c.in_ok-word.ensures) (c.named.ensures xs held)
 
 pub primary-returns-then-is_digit : goal.primary-returns-then-is_digit
@@ -210,9 +198,9 @@ primary-returns-then-is_digit m c xs held = (
       (same_words c.put-then-is_digit.new.self _ _ (ap (λ u. (xs ++ (pos 7 ∷ [])) ++ (u ∷ [])) (to_z-of_z w64 (pos c.number-number.result) fits)) (c.put-then-is_digit.ensures (xs ++ (pos 7 ∷ [])) (c.put.ensures xs held))),
 )
 
-pub primary-returns : goal.primary-returns
+pub primary-returns-else-is_digit : goal.primary-returns-else-is_digit
 unfolding primary_of
-primary-returns m c xs held =
+primary-returns-else-is_digit m c xs held =
     read_by _ _ _ c.group.result _ (passed_over _ _ _ _ _ (ap is_letter (sym c.front-c.ensures) ∙ sym c.if-is_letter.ensures) ∙ passed_over _ _ _ _ _ (ap is_digit (sym c.front-c.ensures) ∙ sym c.if-is_digit.ensures)) (c.group.ensures xs held)
 
 pub product-returns-in_err-factor : goal.product-returns-in_err-factor
