@@ -24,12 +24,6 @@ pub read_by : {A V : Type 0} (shows : A → V → Type 0) (o o' : Outcome A) (r 
 read_by shows o o' (Ok v) at e h = (h.0, e ∙ h.1, h.2)
 read_by shows o o' (Err f) at e h = e ∙ h
 
--- what is shown may be shown otherwise
-pub shown_as : {A V : Type 0} (shows shows' : A → V → Type 0) (o : Outcome A) (r : Result V Fault) (at : ℕ) → ((a : A) (v : V) → shows a v → shows' a v) →
-    ReadAs shows o r at → ReadAs shows' o r at
-shown_as shows shows' o (Ok v) at g h = (h.0, h.1, g h.0 v h.2)
-shown_as shows shows' o (Err f) at g h = h
-
 pub refused_by : {A V : Type 0} (shows : A → V → Type 0) (o : Outcome A) (r : Result V Fault) (at : ℕ) (e : Fault) → o ≡ Refused (refusal_at e at) → IsErrAnd r (λ y. y ≡ e) → ReadAs shows o r at
 refused_by shows o (Ok v) at e p q = absurd q
 refused_by shows o (Err f) at e p q = p ∙ ap (λ g. Refused (refusal_at g at)) (sym q)

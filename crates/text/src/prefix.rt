@@ -1,10 +1,10 @@
 // The quantifiers of a sentence, with their names.
-ghost use Rattle.std.specs.Prelude.{◌≡◌, ◌+◌, ◌≤◌, slice_index};
+ghost use Rattle.std.specs.Prelude.{◌≡◌, ◌+◌, ◌≤◌, map, slice_index};
 ghost use Rattle.grammar.specs.Reader.{run};
 ghost use Rattle.grammar.specs.Text.{quantifier_of, prefix_next, is_quantifier_letter, quantifiers};
 ghost use Rattle.grammar.specs.Tokens.{new_name};
 ghost use Rattle.text.specs.Outcome.{outcome_of};
-ghost use Rattle.text.specs.Prefix.{prefix_of, Longer, PrefixRead, PrefixReads};
+ghost use Rattle.text.specs.Prefix.{name_of, prefix_of, Longer, PrefixRead, PrefixReads};
 
 use crate::source::{Source, position};
 use crate::term::is_reserved;
@@ -12,23 +12,38 @@ use grammar::fault::Fault;
 use grammar::word::Word;
 
 #[derive(Clone, Copy)]
+pub struct Quantifier {
+    // not `some`
+    pub every: bool,
+    pub name: Word,
+}
+
+#[derive(Clone, Copy)]
 pub struct Prefix {
     // the innermost first, as many as are counted
-    pub names: [Word; 4],
-    pub every: [bool; 4],
+    pub quantifiers: [Quantifier; 4],
     pub count: usize,
 }
 
-// One quantifier more, the innermost.
-fn longer(prefix: Prefix, every: bool, name: Word) -> Prefix
-    requires { prefix.count ≤ 3 }
-    ensures value { Longer prefix every name result }
-    ensures count { result.count ≡ prefix.count + 1 }
-{
-    Prefix {
-        names: [name, prefix.names[0], prefix.names[1], prefix.names[2]],
-        every: [every, prefix.every[0], prefix.every[1], prefix.every[2]],
-        count: prefix.count + 1,
+impl Prefix {
+    // One quantifier more, the innermost.
+    fn longer(self, quantifier: Quantifier) -> Prefix
+        requires { self.count ≤ 3 }
+        ensures value { Longer self quantifier result }
+        ensures count { result.count ≡ self.count + 1 }
+    {
+        let [first, second, third, _] = self.quantifiers;
+        Prefix {
+            quantifiers: [quantifier, first, second, third],
+            count: self.count + 1,
+        }
+    }
+
+    // The names, as many as are counted.
+    pub(crate) fn names(&self) -> [Word; 4]
+        ensures { result ≡ map name_of self.now.quantifiers }
+    {
+        self.quantifiers.map(|quantifier| quantifier.name)
     }
 }
 
@@ -72,13 +87,14 @@ fn prefix_next(text: &[u8], at: &mut usize, prefix: Prefix) -> Result<Prefix, Fa
     requires { prefix.count ≤ 3 }
     ensures { PrefixRead (prefix.count + 1) (run (prefix_next (prefix_of prefix)) text.now at.old) result at.new }
 {
+    let names = prefix.names();
     let source = Source {
         text,
-        names: &prefix.names[0..prefix.count],
+        names: &names[..prefix.count],
     };
     let every = source.quantifier(at)?;
     let name = source.new_name(at)?;
-    Ok(longer(prefix, every, name))
+    Ok(prefix.longer(Quantifier { every, name }))
 }
 
 // Whether a quantifier begins like this.
@@ -92,13 +108,15 @@ fn begins_quantifier(c: u8) -> bool
 pub fn quantifiers(text: &[u8], at: &mut usize) -> Result<Prefix, Fault>
     ensures { PrefixReads (run quantifiers text.now at.old) result at.new }
 {
-    let none = Word {
-        letters: [0; 8],
-        length: 0,
+    let none = Quantifier {
+        every: false,
+        name: Word {
+            letters: [0; 8],
+            length: 0,
+        },
     };
     let mut prefix = Prefix {
-        names: [none; 4],
-        every: [false; 4],
+        quantifiers: [none; 4],
         count: 0,
     };
     let source = Source { text, names: &[] };

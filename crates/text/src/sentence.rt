@@ -20,8 +20,8 @@ fn announce(sheet: &mut Sheet, prefix: Prefix)
     ensures { Announces prefix sheet.old sheet.new }
 {
     sheet.put(prefix.count as i64);
-    for every in &prefix.every[..prefix.count] {
-        sheet.put(i64::from(*every));
+    for quantifier in &prefix.quantifiers[..prefix.count] {
+        sheet.put(i64::from(quantifier.every));
     }
 }
 
@@ -33,9 +33,10 @@ pub fn sentence(text: &[u8], draft: &mut Draft) -> Result<(), Fault>
     let prefix = quantifiers(text, &mut draft.at)?;
     start.sign(&mut draft.at, b":")?;
     announce(&mut draft.sheet, prefix);
+    let names = prefix.names();
     let source = Source {
         text,
-        names: &prefix.names[0..prefix.count],
+        names: &names[..prefix.count],
     };
     let claim = source.row(draft, DEEPEST, Row::Equivalence)?;
     claim.ok_or(Fault::Unfit)?;
