@@ -1,15 +1,13 @@
 -- Steps of a reader on a text: what was looked at, what was chosen, what was read.
-use Rattle.std.proofs.Common.{◌≡◌, ℕ, zero, suc, ◌-◌, Bool, true, false, cond, List, ◌++◌, ℤ, IsErrAnd, Some, None, Ok, Err, Option, Result, sym, refl, ap, ◌∙◌, append_assoc, arith}
+use Rattle.std.proofs.Common.{◌≡◌, ℕ, suc, ◌-◌, Bool, true, false, cond, List, ◌++◌, ℤ, IsErrAnd, Some, None, Ok, Err, Option, Result, sym, refl, ap, ◌∙◌, append_assoc, arith}
 use Rattle.std.specs.Option.{ok_or}
 use Rattle.field.specs.Sentence.{Term}
 use Rattle.grammar.specs.declared.fault.Fault.{Fault}
-use Rattle.grammar.specs.declared.fault.Fault.TheVariants.{Unfit, Deep}
-use Rattle.grammar.specs.declared.word.Word.{Word}
-use Rattle.grammar.specs.Formulas.{claimed, atom, equivalence}
+use Rattle.grammar.specs.declared.fault.Fault.TheVariants.{Unfit}
+use Rattle.grammar.specs.Formulas.{claimed}
 use Rattle.grammar.specs.Meaning.{term_words}
-use Rattle.grammar.specs.Nesting.{nest}
-use Rattle.grammar.specs.Reader.{Reader, Give, Refuse, Outcome, Refused, Read, refusal_at, ◌>>=◌, run}
-use Rattle.grammar.specs.Terms.{Claim, Piece, OfTerm, OfClaim, product, sum}
+use Rattle.grammar.specs.Reader.{Reader, Give, Outcome, Refused, Read, refusal_at, ◌>>=◌, run}
+use Rattle.grammar.specs.Terms.{Claim, Piece, OfTerm, OfClaim}
 use Rattle.grammar.proofs.Runs.{goes_on, stops}
 use Rattle.text.specs.declared.claim.Claim.{Claim as ReadClaim}
 use Rattle.text.specs.declared.sheet.Sheet.{Sheet}
@@ -41,52 +39,15 @@ unfolding run
 closes shows r a text i (Ok v) at e s = (a, goes_on r (λ _. Give a) text i v at e, s v)
 closes shows r a text i (Err f) at e s = stops r (λ _. Give a) text i (refusal_at f at) e
 
--- the readers one level deeper
-pub no_deeper_sum : (names : List Word) (d : ℕ) → d ≡ 0 → (nest names d).sum ≡ Refuse Deep
-unfolding nest
-no_deeper_sum names zero e = refl
-no_deeper_sum names (suc d) e = absurd (omega arith)
-
-pub deeper_sum : (names : List Word) (d : ℕ) → (d ≡ 0 → ⊥) → (nest names d).sum ≡ (sum names (nest names (d - 1)) false >>= (λ s. Give s.term))
-unfolding nest
-deeper_sum names zero n = absurd (n refl)
-deeper_sum names (suc d) n = let e : suc d - 1 ≡ d = omega arith in ap (λ k. sum names (nest names k) false >>= (λ s. Give s.term)) (sym e)
-
-pub no_deeper_product : (names : List Word) (d : ℕ) → d ≡ 0 → (nest names d).product ≡ Refuse Deep
-unfolding nest
-no_deeper_product names zero e = refl
-no_deeper_product names (suc d) e = absurd (omega arith)
-
-pub deeper_product : (names : List Word) (d : ℕ) → (d ≡ 0 → ⊥) → (nest names d).product ≡ product names (nest names (d - 1))
-unfolding nest
-deeper_product names zero n = absurd (n refl)
-deeper_product names (suc d) n = let e : suc d - 1 ≡ d = omega arith in ap (λ k. product names (nest names k)) (sym e)
+-- where a level deeper may be opened
+pub one_deeper : {depth : ℕ} → (depth ≡ 0 → ⊥) → depth ≡ suc (depth - 1)
+one_deeper n = omega (arith, n)
 
 pub regrouped : (s : Sheet) (xs ys zs : List ℤ) → Holds s ((xs ++ ys) ++ zs) → Holds s (xs ++ (ys ++ zs))
 regrouped s xs ys zs held = same_words s ((xs ++ ys) ++ zs) (xs ++ (ys ++ zs)) (append_assoc xs ys zs) held
 
 pub ungrouped : (s : Sheet) (xs ys zs : List ℤ) → Holds s (xs ++ (ys ++ zs)) → Holds s ((xs ++ ys) ++ zs)
 ungrouped s xs ys zs held = same_words s (xs ++ (ys ++ zs)) ((xs ++ ys) ++ zs) (sym (append_assoc xs ys zs)) held
-
-pub no_deeper_atom : (names : List Word) (d : ℕ) → d ≡ 0 → (nest names d).atom ≡ Refuse Deep
-unfolding nest
-no_deeper_atom names zero e = refl
-no_deeper_atom names (suc d) e = absurd (omega arith)
-
-pub deeper_atom : (names : List Word) (d : ℕ) → (d ≡ 0 → ⊥) → (nest names d).atom ≡ atom names (nest names (d - 1))
-unfolding nest
-deeper_atom names zero n = absurd (n refl)
-deeper_atom names (suc d) n = let e : suc d - 1 ≡ d = omega arith in ap (λ k. atom names (nest names k)) (sym e)
-
-pub no_deeper_formula : (names : List Word) (d : ℕ) → d ≡ 0 → (nest names d).formula ≡ Refuse Deep
-unfolding nest
-no_deeper_formula names zero e = refl
-no_deeper_formula names (suc d) e = absurd (omega arith)
-
-pub deeper_formula : (names : List Word) (d : ℕ) → (d ≡ 0 → ⊥) → (nest names d).formula ≡ equivalence names (nest names (d - 1))
-unfolding nest
-deeper_formula names zero n = absurd (n refl)
-deeper_formula names (suc d) n = let e : suc d - 1 ≡ d = omega arith in ap (λ k. equivalence names (nest names k)) (sym e)
 
 -- where a formula must stand, and where a term may stand too
 pub claims : (after : Sheet) (xs : List ℤ) (a : Piece) (o : Option ReadClaim) (c : ReadClaim) (text : List ℕ) (i : ℕ) → PieceShown after xs a o → o ≡ Some c →

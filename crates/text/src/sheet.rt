@@ -12,13 +12,10 @@ pub const CAPACITY: usize = 1024;
 fn three_on(place: usize) -> usize
     ensures { result ≡ min (place + 3) 1025 }
 {
-    if place < CAPACITY - 2 {
-        place + 3
-    } else {
-        CAPACITY + 1
-    }
+    place.saturating_add(3).min(CAPACITY + 1)
 }
 
+// Fixed memory, in which no write fails: what comes past the capacity is only counted.
 pub struct Sheet {
     pub words: [i64; 1024],
     // one past the capacity where there are too many
@@ -64,6 +61,7 @@ impl Sheet {
         if to > CAPACITY {
             return;
         }
+        // by index, since `put` writes to the words that are read; copy_within would need its tests of room again
         for i in from..to {
             self.put(self.words[i]);
         }

@@ -195,7 +195,7 @@ impl Source<'_> {
         self.taken(draft, depth, from)
     }
 
-    // The summands behind a first one.
+    // The summands behind a first one; whether an arrow has been read behind them.
     #[cycle(term_levels)]
     pub fn plus(
         &self,
@@ -244,6 +244,7 @@ impl Source<'_> {
         }
     }
 
+    // Whether an arrow has been read behind the sum, which ends it.
     #[cycle(term_levels)]
     pub fn sum(&self, draft: &mut Draft, depth: usize, may_arrow: bool) -> Result<bool, Fault>
         ensures { WritesSum self.now (sum self.now.names.now (nest self.now.names.now depth) may_arrow) result draft.old draft.new }

@@ -16,7 +16,7 @@ use Rattle.text.specs.Sheet.{Holds}
 use Rattle.text.proofs.Chains.{chain_refused, chain_claimed, bind_same, implied_words}
 use Rattle.text.proofs.Rows.{row_runs}
 use Rattle.text.proofs.Sheets.{same_words}
-use Rattle.text.proofs.Steps.{read_by, refused_by, chose, passed_over, no_deeper_atom, deeper_atom, no_deeper_formula, deeper_formula, claims, term_stands, no_claim, regrouped}
+use Rattle.text.proofs.Steps.{read_by, refused_by, one_deeper, chose, passed_over, claims, term_stands, no_claim, regrouped}
 use Rattle.text.proofs.source.Source.+formula_levels.Goals as goal
 use Rattle.text.proofs.source.Source.+formula_levels.Goals.{row_on-then-claim-via-then-claim, row_on-then-claim-via-else-claim+then-front-first, chained-else-not-claim-via-then-not-claim+else-front-ne45, chained-else-not-claim-via-else-not-claim}
 
@@ -39,13 +39,13 @@ pub row_next-returns-in_err-claim : goal.row_next-returns-in_err-claim
 unfolding row_next
 row_next-returns-in_err-claim m c xs p begins held =
     let a = c.in_ok-operand.ensures (xs ++ formula_words p.formula) held in
-    refused_by _ _ c.from_residual-in_err-claim.result _ _ (run_on _ _ _ _ _ _ c.in_ok-between.ensures ∙ run_on _ _ _ _ _ _ a.1 ∙ stops _ _ _ _ _ (no_claim c.operand.new.draft.sheet (xs ++ formula_words p.formula) a.0 _ _ c.args.self.now.text.now c.operand.new.draft.at a.2 c.in_err-claim.ensures.value)) c.from_residual-in_err-claim.ensures.1
+    refused_by _ _ c.from_residual-in_err-claim.result _ _ (run_on _ _ _ _ _ _ c.in_ok-between.ensures ∙ run_on _ _ _ _ _ _ a.1 ∙ stops _ _ _ _ _ (no_claim _ _ _ _ _ _ _ a.2 c.in_err-claim.ensures.value)) c.from_residual-in_err-claim.ensures.1
 
 pub row_next-returns : goal.row_next-returns
 unfolding row_next run
 row_next-returns m c xs p begins held =
     let a = c.in_ok-operand.ensures (xs ++ formula_words p.formula) held in
-    let q = claims c.operand.new.draft.sheet (xs ++ formula_words p.formula) a.0 _ c.in_ok-claim.claim c.args.self.now.text.now c.operand.new.draft.at a.2 c.in_ok-claim.ensures.ok_part in (
+    let q = claims _ _ _ _ _ c.args.self.now.text.now c.operand.new.draft.at a.2 c.in_ok-claim.ensures.ok_part in (
       joined (join_of c.args.row) p q.0,
       run_on _ _ _ _ _ _ c.in_ok-between.ensures ∙ run_on _ _ _ _ _ _ a.1 ∙ run_on _ _ _ _ _ _ q.2,
       (
@@ -92,21 +92,21 @@ pub row-returns-in_default : goal.row-returns-in_default
 unfolding on_claim run
 row-returns-in_default m c xs held =
     let a = c.in_ok-first.ensures xs held in
-    let t = term_stands c.operand.new.draft.sheet xs a.0 c.in_ok-first.field-0 a.2 c.in_default.is in
+    let t = term_stands _ _ _ _ a.2 c.in_default.is in
     (OfTerm t.0, row_runs c.args.row _ _ _ _ ∙ run_on _ _ _ _ _ _ (a.1 ∙ ap (λ z. Read z c.operand.new.draft.at) t.1), t.2)
 
 pub row-returns-in_err-last : goal.row-returns-in_err-last
 unfolding on_claim
 row-returns-in_err-last m c xs held =
     let a = c.in_ok-first.ensures xs held in
-    let q = claims c.operand.new.draft.sheet xs a.0 c.in_ok-first.field-0 c.in-Some.first c.args.self.now.text.now c.operand.new.draft.at a.2 c.in-Some.is in
+    let q = claims _ _ _ _ _ c.args.self.now.text.now c.operand.new.draft.at a.2 c.in-Some.is in
     refused_by _ _ c.from_residual-in_err-last.result _ _ (row_runs c.args.row _ _ _ _ ∙ run_on _ _ _ _ _ _ (a.1 ∙ ap (λ z. Read z c.operand.new.draft.at) q.1) ∙ stops _ _ _ _ _ (c.in_err-last.ensures xs q.0 held.counted q.3)) c.from_residual-in_err-last.ensures.1
 
 pub row-returns : goal.row-returns
 unfolding on_claim run
 row-returns m c xs held =
     let a = c.in_ok-first.ensures xs held in
-    let q = claims c.operand.new.draft.sheet xs a.0 c.in_ok-first.field-0 c.in-Some.first c.args.self.now.text.now c.operand.new.draft.at a.2 c.in-Some.is in
+    let q = claims _ _ _ _ _ c.args.self.now.text.now c.operand.new.draft.at a.2 c.in-Some.is in
     let n = c.in_ok-last.ensures xs q.0 held.counted q.3 in
     (OfClaim n.0, row_runs c.args.row _ _ _ _ ∙ run_on _ _ _ _ _ _ (a.1 ∙ ap (λ z. Read z c.operand.new.draft.at) q.1) ∙ run_on _ _ _ _ _ _ n.1, n.2)
 
@@ -119,21 +119,21 @@ pub implication-returns-in_default : goal.implication-returns-in_default
 unfolding implication on_claim run
 implication-returns-in_default m c xs held =
     let a = c.in_ok-first.ensures xs held in
-    let t = term_stands c.row.new.draft.sheet xs a.0 c.in_ok-first.field-0 a.2 c.in_default.is in
+    let t = term_stands _ _ _ _ a.2 c.in_default.is in
     (OfTerm t.0, run_on (disjunction c.args.self.now.names.now (nest c.args.self.now.names.now c.args.depth)) _ _ _ _ _ (a.1 ∙ ap (λ z. Read z c.row.new.draft.at) t.1), t.2)
 
 pub implication-returns-in_err-chained : goal.implication-returns-in_err-chained
 unfolding implication on_claim
 implication-returns-in_err-chained m c xs held =
     let a = c.in_ok-first.ensures xs held in
-    let q = claims c.row.new.draft.sheet xs a.0 c.in_ok-first.field-0 c.in-Some.first c.args.self.now.text.now c.row.new.draft.at a.2 c.in-Some.is in
+    let q = claims _ _ _ _ _ c.args.self.now.text.now c.row.new.draft.at a.2 c.in-Some.is in
     refused_by _ _ c.from_residual-in_err-chained.result _ _ (run_on (disjunction c.args.self.now.names.now (nest c.args.self.now.names.now c.args.depth)) _ _ _ _ _ (a.1 ∙ ap (λ z. Read z c.row.new.draft.at) q.1) ∙ stops _ _ _ _ _ (c.in_err-chained.ensures xs q.0 held.counted q.3)) c.from_residual-in_err-chained.ensures.1
 
 pub implication-returns : goal.implication-returns
 unfolding implication on_claim run
 implication-returns m c xs held =
     let a = c.in_ok-first.ensures xs held in
-    let q = claims c.row.new.draft.sheet xs a.0 c.in_ok-first.field-0 c.in-Some.first c.args.self.now.text.now c.row.new.draft.at a.2 c.in-Some.is in
+    let q = claims _ _ _ _ _ c.args.self.now.text.now c.row.new.draft.at a.2 c.in-Some.is in
     let n = c.in_ok-chained.ensures xs q.0 held.counted q.3 in
     (OfClaim n.0, run_on (disjunction c.args.self.now.names.now (nest c.args.self.now.names.now c.args.depth)) _ _ _ _ _ (a.1 ∙ ap (λ z. Read z c.row.new.draft.at) q.1) ∙ run_on _ _ _ _ _ _ n.1, n.2)
 
@@ -211,27 +211,27 @@ chained-loop-turn-preserved m c xs p begins shown =
     )
 
 pub denied-returns-then-depth-eq0 : goal.denied-returns-then-depth-eq0
-unfolding denied run
+unfolding denied run nest
 denied-returns-then-depth-eq0 m c xs held =
-    run_on _ _ _ _ _ _ c.blanks.ensures ∙ stops _ _ _ _ _ (ap (λ r. run r c.args.self.now.text.now c.blanks.new.at) (no_deeper_atom c.args.self.now.names.now c.args.depth c.if-depth-eq0.true))
+    run_on _ _ _ _ _ _ c.blanks.ensures ∙ stops _ _ _ _ _ (ap (λ d. run (nest c.args.self.now.names.now d).atom c.args.self.now.text.now c.blanks.new.at) c.if-depth-eq0.true)
 
 pub denied-returns-in_err-atom : goal.denied-returns-in_err-atom
-unfolding denied atom run
+unfolding denied atom run nest
 denied-returns-in_err-atom m c xs held =
-    refused_by _ _ c.from_residual.result _ _ (run_on _ _ _ _ _ _ c.blanks.ensures ∙ stops _ _ _ _ _ (ap (λ r. run r c.args.self.now.text.now c.blanks.new.at) (deeper_atom c.args.self.now.names.now c.args.depth c.if-depth-eq0.false) ∙ c.in_err-atom.ensures xs held)) c.from_residual.ensures.1
+    refused_by _ _ c.from_residual.result _ _ (run_on _ _ _ _ _ _ c.blanks.ensures ∙ stops _ _ _ _ _ (ap (λ d. run (nest c.args.self.now.names.now d).atom c.args.self.now.text.now c.blanks.new.at) (one_deeper c.if-depth-eq0.false) ∙ c.in_err-atom.ensures xs held)) c.from_residual.ensures.1
 
 pub denied-returns-in_err-claim : goal.denied-returns-in_err-claim
-unfolding denied atom run
+unfolding denied atom run nest
 denied-returns-in_err-claim m c xs held =
     let a = c.in_ok-atom.ensures xs held in
-    refused_by _ _ c.from_residual-in_err-claim.result _ _ (run_on _ _ _ _ _ _ c.blanks.ensures ∙ run_on _ _ _ _ _ _ (ap (λ r. run r c.args.self.now.text.now c.blanks.new.at) (deeper_atom c.args.self.now.names.now c.args.depth c.if-depth-eq0.false) ∙ a.1) ∙ stops _ _ _ _ _ (no_claim c.atom.new.draft.sheet xs a.0 _ _ c.args.self.now.text.now c.atom.new.draft.at a.2 c.in_err-claim.ensures.value)) c.from_residual-in_err-claim.ensures.1
+    refused_by _ _ c.from_residual-in_err-claim.result _ _ (run_on _ _ _ _ _ _ c.blanks.ensures ∙ run_on _ _ _ _ _ _ (ap (λ d. run (nest c.args.self.now.names.now d).atom c.args.self.now.text.now c.blanks.new.at) (one_deeper c.if-depth-eq0.false) ∙ a.1) ∙ stops _ _ _ _ _ (no_claim _ _ _ _ _ _ _ a.2 c.in_err-claim.ensures.value)) c.from_residual-in_err-claim.ensures.1
 
 pub denied-returns : goal.denied-returns
-unfolding denied atom run formula_words
+unfolding denied atom run formula_words nest
 denied-returns m c xs held =
     let a = c.in_ok-atom.ensures xs held in
-    let q = claims c.atom.new.draft.sheet xs a.0 _ c.in_ok-claim.claim c.args.self.now.text.now c.atom.new.draft.at a.2 c.in_ok-claim.ensures.ok_part in
-    (OfClaim (record { formula = Not q.0.formula; arrow = q.0.arrow }), run_on _ _ _ _ _ _ c.blanks.ensures ∙ run_on _ _ _ _ _ _ (ap (λ r. run r c.args.self.now.text.now c.blanks.new.at) (deeper_atom c.args.self.now.names.now c.args.depth c.if-depth-eq0.false) ∙ a.1) ∙ run_on _ _ _ _ _ _ q.2, (q.3.0, c.insert.ensures xs (formula_words q.0.formula) held.counted q.3.1))
+    let q = claims _ _ _ _ _ c.args.self.now.text.now c.atom.new.draft.at a.2 c.in_ok-claim.ensures.ok_part in
+    (OfClaim (record { formula = Not q.0.formula; arrow = q.0.arrow }), run_on _ _ _ _ _ _ c.blanks.ensures ∙ run_on _ _ _ _ _ _ (ap (λ d. run (nest c.args.self.now.names.now d).atom c.args.self.now.text.now c.blanks.new.at) (one_deeper c.if-depth-eq0.false) ∙ a.1) ∙ run_on _ _ _ _ _ _ q.2, (q.3.0, c.insert.ensures xs (formula_words q.0.formula) held.counted q.3.1))
 
 pub from_word-returns-then-is_word : goal.from_word-returns-then-is_word
 unfolding from_word
@@ -255,34 +255,34 @@ enclosed-returns-in_err-sign m c xs held =
     refused_by _ _ c.from_residual.result _ _ (stops _ _ _ _ _ c.in_err-sign.ensures) c.from_residual.ensures.1
 
 pub enclosed-returns-then-depth-eq0 : goal.enclosed-returns-then-depth-eq0
-unfolding enclosed run
+unfolding enclosed run nest
 enclosed-returns-then-depth-eq0 m c xs held =
-    run_on _ _ _ _ _ _ c.in_ok-sign.ensures ∙ stops _ _ _ _ _ (ap (λ r. run r c.args.self.now.text.now c.sign.new.at) (no_deeper_formula c.args.self.now.names.now c.args.depth c.if-depth-eq0.true))
+    run_on _ _ _ _ _ _ c.in_ok-sign.ensures ∙ stops _ _ _ _ _ (ap (λ d. run (nest c.args.self.now.names.now d).formula c.args.self.now.text.now c.sign.new.at) c.if-depth-eq0.true)
 
 pub enclosed-returns-in_err-piece : goal.enclosed-returns-in_err-piece
-unfolding enclosed
+unfolding enclosed nest
 enclosed-returns-in_err-piece m c xs held =
-    refused_by _ _ c.from_residual-in_err-piece.result _ _ (run_on _ _ _ _ _ _ c.in_ok-sign.ensures ∙ stops _ _ _ _ _ (ap (λ r. run r c.args.self.now.text.now c.sign.new.at) (deeper_formula c.args.self.now.names.now c.args.depth c.if-depth-eq0.false) ∙ c.in_err-piece.ensures xs held)) c.from_residual-in_err-piece.ensures.1
+    refused_by _ _ c.from_residual-in_err-piece.result _ _ (run_on _ _ _ _ _ _ c.in_ok-sign.ensures ∙ stops _ _ _ _ _ (ap (λ d. run (nest c.args.self.now.names.now d).formula c.args.self.now.text.now c.sign.new.at) (one_deeper c.if-depth-eq0.false) ∙ c.in_err-piece.ensures xs held)) c.from_residual-in_err-piece.ensures.1
 
 pub enclosed-returns-in_err-sign-2 : goal.enclosed-returns-in_err-sign-2
-unfolding enclosed
+unfolding enclosed nest
 enclosed-returns-in_err-sign-2 m c xs held =
     let a = c.in_ok-piece.ensures xs held in
-    refused_by _ _ c.from_residual-in_err-sign-2.result _ _ (run_on _ _ _ _ _ _ c.in_ok-sign.ensures ∙ run_on _ _ _ _ _ _ (ap (λ r. run r c.args.self.now.text.now c.sign.new.at) (deeper_formula c.args.self.now.names.now c.args.depth c.if-depth-eq0.false) ∙ a.1) ∙ stops _ _ _ _ _ c.in_err-sign-2.ensures) c.from_residual-in_err-sign-2.ensures.1
+    refused_by _ _ c.from_residual-in_err-sign-2.result _ _ (run_on _ _ _ _ _ _ c.in_ok-sign.ensures ∙ run_on _ _ _ _ _ _ (ap (λ d. run (nest c.args.self.now.names.now d).formula c.args.self.now.text.now c.sign.new.at) (one_deeper c.if-depth-eq0.false) ∙ a.1) ∙ stops _ _ _ _ _ c.in_err-sign-2.ensures) c.from_residual-in_err-sign-2.ensures.1
 
 pub enclosed-returns-in-None : goal.enclosed-returns-in-None
-unfolding enclosed from_piece
+unfolding enclosed from_piece nest
 enclosed-returns-in-None m c xs held =
     let a = c.in_ok-piece.ensures xs held in
-    let q = term_stands c.row.new.draft.sheet xs a.0 c.in_ok-piece.piece a.2 c.in-None.is in
-    read_by _ _ _ c.from_primary.result _ (run_on _ _ _ _ _ _ c.in_ok-sign.ensures ∙ run_on _ _ _ _ _ _ (ap (λ r. run r c.args.self.now.text.now c.sign.new.at) (deeper_formula c.args.self.now.names.now c.args.depth c.if-depth-eq0.false) ∙ a.1 ∙ ap (λ z. Read z c.row.new.draft.at) q.1) ∙ run_on _ _ _ _ _ _ c.in_ok-sign-2.ensures) (c.from_primary.ensures xs q.0 held.counted q.2)
+    let q = term_stands _ _ _ _ a.2 c.in-None.is in
+    read_by _ _ _ c.from_primary.result _ (run_on _ _ _ _ _ _ c.in_ok-sign.ensures ∙ run_on _ _ _ _ _ _ (ap (λ d. run (nest c.args.self.now.names.now d).formula c.args.self.now.text.now c.sign.new.at) (one_deeper c.if-depth-eq0.false) ∙ a.1 ∙ ap (λ z. Read z c.row.new.draft.at) q.1) ∙ run_on _ _ _ _ _ _ c.in_ok-sign-2.ensures) (c.from_primary.ensures xs q.0 held.counted q.2)
 
 pub enclosed-returns-in-Some : goal.enclosed-returns-in-Some
-unfolding enclosed from_piece run
+unfolding enclosed from_piece run nest
 enclosed-returns-in-Some m c xs held =
     let a = c.in_ok-piece.ensures xs held in
-    let q = claims c.row.new.draft.sheet xs a.0 c.in_ok-piece.piece c.in-Some.claim c.args.self.now.text.now c.row.new.draft.at a.2 c.in-Some.is in
-    (OfClaim q.0, run_on _ _ _ _ _ _ c.in_ok-sign.ensures ∙ run_on _ _ _ _ _ _ (ap (λ r. run r c.args.self.now.text.now c.sign.new.at) (deeper_formula c.args.self.now.names.now c.args.depth c.if-depth-eq0.false) ∙ a.1 ∙ ap (λ z. Read z c.row.new.draft.at) q.1) ∙ run_on _ _ _ _ _ _ c.in_ok-sign-2.ensures, q.3)
+    let q = claims _ _ _ _ _ c.args.self.now.text.now c.row.new.draft.at a.2 c.in-Some.is in
+    (OfClaim q.0, run_on _ _ _ _ _ _ c.in_ok-sign.ensures ∙ run_on _ _ _ _ _ _ (ap (λ d. run (nest c.args.self.now.names.now d).formula c.args.self.now.text.now c.sign.new.at) (one_deeper c.if-depth-eq0.false) ∙ a.1 ∙ ap (λ z. Read z c.row.new.draft.at) q.1) ∙ run_on _ _ _ _ _ _ c.in_ok-sign-2.ensures, q.3)
 
 pub arrow_next-returns : goal.arrow_next-returns
 unfolding chain_next run

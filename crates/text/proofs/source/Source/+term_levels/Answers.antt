@@ -11,7 +11,7 @@ use Rattle.grammar.specs.Terms.{grouped, primary_of, factor, times_next, times_f
 use Rattle.grammar.specs.Tokens.{sign}
 use Rattle.grammar.proofs.Runs.{goes_on, stops, while_goes, while_stops, while-ended, while-over}
 use Rattle.text.proofs.Sheets.{same_words}
-use Rattle.text.proofs.Steps.{read_by, refused_by, chose, passed_over, closes, no_deeper_sum, deeper_sum, no_deeper_product, deeper_product, regrouped}
+use Rattle.text.proofs.Steps.{read_by, refused_by, one_deeper, chose, passed_over, closes, regrouped}
 use Rattle.text.proofs.source.Source.+term_levels.Goals as goal
 use Rattle.text.proofs.source.Source.+term_levels.Goals.{plus_next-else-may_arrow-via-then-may_arrow+else-front-eq62, plus_next-else-may_arrow-via-else-may_arrow}
 
@@ -51,20 +51,20 @@ group-returns-in_err-sign m c xs held =
     refused_by _ _ c.from_residual.result _ _ (stops _ _ _ _ _ c.in_err-sign.ensures) c.from_residual.ensures.1
 
 pub group-returns-then-depth-eq0 : goal.group-returns-then-depth-eq0
-unfolding grouped run
+unfolding grouped run nest
 group-returns-then-depth-eq0 m c xs held =
-    goes_on _ _ _ _ _ _ c.in_ok-sign.ensures ∙ stops _ _ _ _ _ (ap (λ r. run r c.args.self.now.text.now c.sign.new.at) (no_deeper_sum c.args.self.now.names.now c.args.depth c.if-depth-eq0.true))
+    goes_on _ _ _ _ _ _ c.in_ok-sign.ensures ∙ stops _ _ _ _ _ (ap (λ d. run (nest c.args.self.now.names.now d).sum c.args.self.now.text.now c.sign.new.at) c.if-depth-eq0.true)
 
 pub group-returns-in_err-sum : goal.group-returns-in_err-sum
-unfolding grouped
+unfolding grouped nest
 group-returns-in_err-sum m c xs held =
-    refused_by _ _ c.from_residual-in_err-sum.result _ _ (goes_on _ _ _ _ _ _ c.in_ok-sign.ensures ∙ stops _ _ _ _ _ (ap (λ r. run r c.args.self.now.text.now c.sign.new.at) (deeper_sum c.args.self.now.names.now c.args.depth c.if-depth-eq0.false) ∙ stops _ _ _ _ _ (c.in_err-sum.ensures xs held))) c.from_residual-in_err-sum.ensures.1
+    refused_by _ _ c.from_residual-in_err-sum.result _ _ (goes_on _ _ _ _ _ _ c.in_ok-sign.ensures ∙ stops _ _ _ _ _ (ap (λ d. run (nest c.args.self.now.names.now d).sum c.args.self.now.text.now c.sign.new.at) (one_deeper c.if-depth-eq0.false) ∙ stops _ _ _ _ _ (c.in_err-sum.ensures xs held))) c.from_residual-in_err-sum.ensures.1
 
 pub group-returns : goal.group-returns
-unfolding grouped run
+unfolding grouped run nest
 group-returns m c xs held =
     let p = c.in_ok-sum.ensures xs held in
-    read_by _ _ _ c.sign-2.result _ (goes_on _ _ _ _ _ _ c.in_ok-sign.ensures ∙ goes_on _ _ _ _ _ _ (ap (λ r. run r c.args.self.now.text.now c.sign.new.at) (deeper_sum c.args.self.now.names.now c.args.depth c.if-depth-eq0.false) ∙ goes_on _ _ _ _ _ _ p.1))
+    read_by _ _ _ c.sign-2.result _ (goes_on _ _ _ _ _ _ c.in_ok-sign.ensures ∙ goes_on _ _ _ _ _ _ (ap (λ d. run (nest c.args.self.now.names.now d).sum c.args.self.now.text.now c.sign.new.at) (one_deeper c.if-depth-eq0.false) ∙ goes_on _ _ _ _ _ _ p.1))
     (closes _ (sign (41 ∷ [])) p.0.term _ _ c.sign-2.result _ c.sign-2.ensures (λ _. p.2.1))
 
 pub leading-returns-then-front-eq45 : goal.leading-returns-then-front-eq45
@@ -83,21 +83,21 @@ negated-returns-in_err-sign m c xs held =
     refused_by _ _ c.from_residual.result _ _ (stops _ _ _ _ _ c.in_err-sign.ensures) c.from_residual.ensures.1
 
 pub negated-returns-then-depth-eq0 : goal.negated-returns-then-depth-eq0
-unfolding negated run
+unfolding negated run nest
 negated-returns-then-depth-eq0 m c xs held =
-    goes_on _ _ _ _ _ _ c.in_ok-sign.ensures ∙ stops _ _ _ _ _ (ap (λ r. run r c.args.self.now.text.now c.sign.new.at) (no_deeper_product c.args.self.now.names.now c.args.depth c.if-depth-eq0.true))
+    goes_on _ _ _ _ _ _ c.in_ok-sign.ensures ∙ stops _ _ _ _ _ (ap (λ d. run (nest c.args.self.now.names.now d).product c.args.self.now.text.now c.sign.new.at) c.if-depth-eq0.true)
 
 pub negated-returns-in_err-product : goal.negated-returns-in_err-product
-unfolding negated
+unfolding negated nest
 negated-returns-in_err-product m c xs held =
-    refused_by _ _ c.from_residual-in_err-product.result _ _ (goes_on _ _ _ _ _ _ c.in_ok-sign.ensures ∙ stops _ _ _ _ _ (ap (λ r. run r c.args.self.now.text.now c.sign.new.at) (deeper_product c.args.self.now.names.now c.args.depth c.if-depth-eq0.false) ∙ c.in_err-product.ensures xs held)) c.from_residual-in_err-product.ensures.1
+    refused_by _ _ c.from_residual-in_err-product.result _ _ (goes_on _ _ _ _ _ _ c.in_ok-sign.ensures ∙ stops _ _ _ _ _ (ap (λ d. run (nest c.args.self.now.names.now d).product c.args.self.now.text.now c.sign.new.at) (one_deeper c.if-depth-eq0.false) ∙ c.in_err-product.ensures xs held)) c.from_residual-in_err-product.ensures.1
 
 pub negated-returns : goal.negated-returns
-unfolding negated run term_words
+unfolding negated run term_words nest
 negated-returns m c xs held =
     let p = c.in_ok-product.ensures xs held in (
       negative p.0,
-      goes_on _ _ _ _ _ _ c.in_ok-sign.ensures ∙ goes_on _ _ _ _ _ _ (ap (λ r. run r c.args.self.now.text.now c.sign.new.at) (deeper_product c.args.self.now.names.now c.args.depth c.if-depth-eq0.false) ∙ p.1),
+      goes_on _ _ _ _ _ _ c.in_ok-sign.ensures ∙ goes_on _ _ _ _ _ _ (ap (λ d. run (nest c.args.self.now.names.now d).product c.args.self.now.text.now c.sign.new.at) (one_deeper c.if-depth-eq0.false) ∙ p.1),
       c.negate.ensures xs (term_words p.0) held.counted p.2,
     )
 
