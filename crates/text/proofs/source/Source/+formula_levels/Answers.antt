@@ -4,14 +4,14 @@ use Rattle.std.proofs.Math.Bool.{not-not}
 use Rattle.std.proofs.lemmas.Bool.{eq-eqb, ne_eqb, and_from, and_left, and_right, or_from, or_left, or_right}
 use Rattle.field.specs.Sentence.{Not}
 use Rattle.grammar.specs.Characters.{is_letter}
-use Rattle.grammar.specs.Formulas.{on_claim, denied, from_piece, from_word, enclosed, atom_of, atom, joined, row_next, goes_on, row_for, disjunction, implied, arrow_behind, chain_next, arrow_goes_on, chain_for, concluded, chained, implication}
+use Rattle.grammar.specs.Formulas.{on_claim, denied, from_piece, from_word, enclosed, atom_of, atom, joined, row_next, row_for, disjunction, implied, arrow_behind, chain_next, chain_for, concluded, chained, implication}
 use Rattle.grammar.specs.Meaning.{formula_words}
 use Rattle.grammar.specs.Nesting.{nest}
 use Rattle.grammar.specs.Reader.{run, Read}
 use Rattle.grammar.specs.Terms.{OfTerm, OfClaim}
 use Rattle.grammar.proofs.Runs.{goes_on as run_on, stops, while_goes, while_stops, while-ended, while-over}
 use Rattle.text.specs.Claims.{chain_words}
-use Rattle.text.specs.Row.{first_of, between_of, join_of, operand_of}
+use Rattle.text.specs.Row.{first_of, join_of, operand_of}
 use Rattle.text.specs.Sheet.{Holds}
 use Rattle.text.proofs.Chains.{chain_refused, chain_claimed, bind_same, implied_words}
 use Rattle.text.proofs.Rows.{row_runs}
@@ -63,26 +63,26 @@ row_on-returns-then-claim m c xs p begins shown =
       | row_on-then-claim-via-then-claim v ↦ and_left _ _ (ap not (i.2.0 ∙ v.if-claim.true))
       | row_on-then-claim-via-else-claim+then-front-first v ↦ and_right _ _ (ne_eqb _ (first_of c.args.row) (λ e. v.if-front-first.true (v.front.ensures ∙ e ∙ sym v.first.ensures)))
     ] in
-    (i.0, i.1 ∙ while-ended (goes_on (first_of c.args.row)) (row_next (between_of c.args.row) (join_of c.args.row) (operand_of c.args.row c.args.self.now.names.now (nest c.args.self.now.names.now c.args.depth))) _ i.0 c.args.self.now.text.now c.loop-turn.draft.at ended, i.2)
+    (i.0, i.1 ∙ while-ended _ _ _ i.0 c.args.self.now.text.now c.loop-turn.draft.at ended, i.2)
 
 pub row_on-returns-in_err-claim : goal.row_on-returns-in_err-claim
 unfolding row_for
 row_on-returns-in_err-claim m c xs p begins shown =
     let i = c.loop-turn.invariant xs p begins shown in
-    refused_by _ _ c.from_residual.result _ _ (i.1 ∙ while_stops (goes_on (first_of c.args.row)) (row_next (between_of c.args.row) (join_of c.args.row) (operand_of c.args.row c.args.self.now.names.now (nest c.args.self.now.names.now c.args.depth))) 65536 c.loop-turn._turn i.0 c.args.self.now.text.now c.loop-turn.draft.at _ c.loop-turn-test.true (and_from _ _ (ap not (i.2.0 ∙ c.if-claim.false)) (eq-eqb _ (first_of c.args.row) (sym c.front.ensures ∙ c.if-front-first.false ∙ c.first.ensures))) (c.in_err-claim.ensures xs i.0 begins i.2.1)) c.from_residual.ensures.1
+    refused_by _ _ c.from_residual.result _ _ (i.1 ∙ while_stops _ _ 65536 c.loop-turn._turn i.0 c.args.self.now.text.now c.loop-turn.draft.at _ c.loop-turn-test.true (and_from _ _ (ap not (i.2.0 ∙ c.if-claim.false)) (eq-eqb _ (first_of c.args.row) (sym c.front.ensures ∙ c.if-front-first.false ∙ c.first.ensures))) (c.in_err-claim.ensures xs i.0 begins i.2.1)) c.from_residual.ensures.1
 
 pub row_on-loop-turn-preserved : goal.row_on-loop-turn-preserved
 unfolding row_for
 row_on-loop-turn-preserved m c xs p begins shown =
     let i = c.loop-turn.invariant xs p begins shown in
     let n = c.in_ok-claim.ensures xs i.0 begins i.2.1 in
-    (n.0, i.1 ∙ while_goes (goes_on (first_of c.args.row)) (row_next (between_of c.args.row) (join_of c.args.row) (operand_of c.args.row c.args.self.now.names.now (nest c.args.self.now.names.now c.args.depth))) 65536 c.loop-turn._turn i.0 c.args.self.now.text.now c.loop-turn.draft.at n.0 _ c.loop-turn-test.true (and_from _ _ (ap not (i.2.0 ∙ c.if-claim.false)) (eq-eqb _ (first_of c.args.row) (sym c.front.ensures ∙ c.if-front-first.false ∙ c.first.ensures))) n.1, n.2)
+    (n.0, i.1 ∙ while_goes _ _ 65536 c.loop-turn._turn i.0 c.args.self.now.text.now c.loop-turn.draft.at n.0 _ c.loop-turn-test.true (and_from _ _ (ap not (i.2.0 ∙ c.if-claim.false)) (eq-eqb _ (first_of c.args.row) (sym c.front.ensures ∙ c.if-front-first.false ∙ c.first.ensures))) n.1, n.2)
 
 pub row_on-returns : goal.row_on-returns
 unfolding row_for
 row_on-returns m c xs p begins shown =
     let i = c.loop-turn.invariant xs p begins shown in
-    (i.0, i.1 ∙ while-over (goes_on (first_of c.args.row)) (row_next (between_of c.args.row) (join_of c.args.row) (operand_of c.args.row c.args.self.now.names.now (nest c.args.self.now.names.now c.args.depth))) 65536 c.loop-turn._turn i.0 c.args.self.now.text.now c.loop-turn.draft.at c.loop-turn-test.false, i.2)
+    (i.0, i.1 ∙ while-over _ _ 65536 c.loop-turn._turn i.0 c.args.self.now.text.now c.loop-turn.draft.at c.loop-turn-test.false, i.2)
 
 pub row-returns-in_err-first : goal.row-returns-in_err-first
 row-returns-in_err-first m c xs held =
@@ -166,7 +166,7 @@ chained-returns-then-front-ne45 m c xs p begins shown =
     let all : Holds c.loop-turn.draft.sheet (xs ++ formula_words (implied i.0.before i.0.last.formula)) =
     same_words c.loop-turn.draft.sheet (xs ++ (chain_words i.0.before ++ formula_words i.0.last.formula)) _ (ap (λ l. xs ++ l) (sym (implied_words i.0.before i.0.last.formula)))
     (regrouped c.loop-turn.draft.sheet xs (chain_words i.0.before) (formula_words i.0.last.formula) i.3.1) in
-    (record { formula = implied i.0.before i.0.last.formula; arrow = false }, i.1 ∙ run_on _ concluded _ _ i.0 _ (while-ended arrow_goes_on (chain_next (disjunction c.args.self.now.names.now (nest c.args.self.now.names.now c.args.depth))) _ i.0 c.args.self.now.text.now c.loop-turn.draft.at (or_from _ _ (i.3.0 ∙ sym (not-not _) ∙ ap not c.if-not-claim.true) (ne_eqb _ 45 (λ e. c.if-front-ne45.true (c.front.ensures ∙ e))))), (refl, all))
+    (record { formula = implied i.0.before i.0.last.formula; arrow = false }, i.1 ∙ run_on _ concluded _ _ i.0 _ (while-ended _ _ _ i.0 c.args.self.now.text.now c.loop-turn.draft.at (or_from _ _ (i.3.0 ∙ sym (not-not _) ∙ ap not c.if-not-claim.true) (ne_eqb _ 45 (λ e. c.if-front-ne45.true (c.front.ensures ∙ e))))), (refl, all))
 
 pub chained-returns : goal.chained-returns
 unfolding chain_for concluded run
@@ -175,7 +175,7 @@ chained-returns m c xs p begins shown =
     let all : Holds c.loop-turn.draft.sheet (xs ++ formula_words (implied i.0.before i.0.last.formula)) =
     same_words c.loop-turn.draft.sheet (xs ++ (chain_words i.0.before ++ formula_words i.0.last.formula)) _ (ap (λ l. xs ++ l) (sym (implied_words i.0.before i.0.last.formula)))
     (regrouped c.loop-turn.draft.sheet xs (chain_words i.0.before) (formula_words i.0.last.formula) i.3.1) in
-    (record { formula = implied i.0.before i.0.last.formula; arrow = false }, i.1 ∙ run_on _ concluded _ _ i.0 _ (while-over arrow_goes_on (chain_next (disjunction c.args.self.now.names.now (nest c.args.self.now.names.now c.args.depth))) 65536 c.loop-turn._turn i.0 c.args.self.now.text.now c.loop-turn.draft.at c.loop-turn-test.false), (refl, all))
+    (record { formula = implied i.0.before i.0.last.formula; arrow = false }, i.1 ∙ run_on _ concluded _ _ i.0 _ (while-over _ _ 65536 c.loop-turn._turn i.0 c.args.self.now.text.now c.loop-turn.draft.at c.loop-turn-test.false), (refl, all))
 
 pub chained-returns-in_err-claim : goal.chained-returns-in_err-claim
 unfolding chain_for chain_words
@@ -189,7 +189,7 @@ chained-returns-in_err-claim m c xs p begins shown =
     let before = i.0.last.formula ∷ i.0.before in
     let implying : Holds c.imply.new.self (xs ++ chain_words before) =
     regrouped c.imply.new.self xs (chain_words i.0.before) (pos 5 ∷ pos 3 ∷ formula_words i.0.last.formula) (c.imply.ensures (xs ++ chain_words i.0.before) (formula_words i.0.last.formula) i.2 i.3.1) in
-    refused_by _ _ c.from_residual.result _ _ (i.1 ∙ stops _ concluded _ _ _ (while_stops arrow_goes_on (chain_next (disjunction c.args.self.now.names.now (nest c.args.self.now.names.now c.args.depth))) 65536 c.loop-turn._turn i.0 c.args.self.now.text.now c.loop-turn.draft.at _ c.loop-turn-test.true goes (c.in_err-claim.ensures (xs ++ chain_words before) i.0 i.3.0 implying))) c.from_residual.ensures.1
+    refused_by _ _ c.from_residual.result _ _ (i.1 ∙ stops _ concluded _ _ _ (while_stops _ _ 65536 c.loop-turn._turn i.0 c.args.self.now.text.now c.loop-turn.draft.at _ c.loop-turn-test.true goes (c.in_err-claim.ensures (xs ++ chain_words before) i.0 i.3.0 implying))) c.from_residual.ensures.1
 
 pub chained-loop-turn-preserved : goal.chained-loop-turn-preserved
 unfolding chain_for chain_words
@@ -205,7 +205,7 @@ chained-loop-turn-preserved m c xs p begins shown =
     regrouped c.imply.new.self xs (chain_words i.0.before) (pos 5 ∷ pos 3 ∷ formula_words i.0.last.formula) (c.imply.ensures (xs ++ chain_words i.0.before) (formula_words i.0.last.formula) i.2 i.3.1) in
     let n = c.in_ok-claim.ensures (xs ++ chain_words before) i.0 i.3.0 implying in (
       record { before = before; last = n.0 },
-      i.1 ∙ bind_same _ _ concluded _ _ _ (while_goes arrow_goes_on (chain_next (disjunction c.args.self.now.names.now (nest c.args.self.now.names.now c.args.depth))) 65536 c.loop-turn._turn i.0 c.args.self.now.text.now c.loop-turn.draft.at (record { before = before; last = n.0 }) _ c.loop-turn-test.true goes n.1),
+      i.1 ∙ bind_same _ _ concluded _ _ _ (while_goes _ _ 65536 c.loop-turn._turn i.0 c.args.self.now.text.now c.loop-turn.draft.at (record { before = before; last = n.0 }) _ c.loop-turn-test.true goes n.1),
       implying.counted,
       n.2,
     )
