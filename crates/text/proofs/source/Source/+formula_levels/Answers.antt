@@ -1,10 +1,10 @@
 -- Each level of a formula, by the levels that it calls.
-use Rattle.std.proofs.Common.{arith, ◌≡◌, min, true, false, not, ◌&&◌, ◌||◌, eqb, [], ◌∷◌, ◌++◌, length, get_or, pos, sym, refl, ap, ◌∙◌, append-nil}
+use Rattle.std.proofs.Common.{arith, ◌≡◌, min, true, false, not, ◌&&◌, ◌||◌, eqb, [], ◌∷◌, ◌++◌, length, get_or, sym, refl, ap, ◌∙◌, append-nil}
 use Rattle.std.proofs.Math.Bool.{not-not}
 use Rattle.std.proofs.lemmas.Bool.{eq-eqb, ne_eqb, and_from, and_left, and_right, or_from, or_left, or_right}
 use Rattle.field.specs.Sentence.{Not}
 use Rattle.grammar.specs.Characters.{is_letter}
-use Rattle.grammar.specs.Formulas.{on_claim, denied, from_piece, from_word, enclosed, atom_of, atom, joined, row_next, row_for, disjunction, implied, arrow_behind, chain_next, chain_for, concluded, chained, implication}
+use Rattle.grammar.specs.Formulas.{on_claim, denied, from_piece, from_word, enclosed, atom_of, atom, joined, row_next, row_for, implied, arrow_behind, chain_next, chain_for, concluded, chained, implication}
 use Rattle.grammar.specs.Meaning.{formula_words}
 use Rattle.grammar.specs.Nesting.{nest}
 use Rattle.grammar.specs.Reader.{run, Read}
@@ -50,7 +50,7 @@ row_next-returns m c xs p begins held =
       run_on _ _ _ _ _ _ c.in_ok-between.ensures ∙ run_on _ _ _ _ _ _ a.1 ∙ run_on _ _ _ _ _ _ q.2,
       (
         q.3.0,
-        c.join.ensures xs p.formula q.0.formula begins held.counted (regrouped c.operand.new.draft.sheet xs (formula_words p.formula) (formula_words q.0.formula) q.3.1),
+        c.join.ensures xs p.formula q.0.formula begins held.counted (regrouped _ xs _ _ q.3.1),
       ),
     )
 
@@ -63,26 +63,26 @@ row_on-returns-then-claim m c xs p begins shown =
       | row_on-then-claim-via-then-claim v ↦ and_left _ _ (ap not (i.2.0 ∙ v.if-claim.true))
       | row_on-then-claim-via-else-claim+then-front-first v ↦ and_right _ _ (ne_eqb _ (first_of c.args.row) (λ e. v.if-front-first.true (v.front.ensures ∙ e ∙ sym v.first.ensures)))
     ] in
-    (i.0, i.1 ∙ while-ended _ _ _ i.0 c.args.self.now.text.now c.loop-turn.draft.at ended, i.2)
+    (i.0, i.1 ∙ while-ended _ _ _ _ _ _ ended, i.2)
 
 pub row_on-returns-in_err-claim : goal.row_on-returns-in_err-claim
 unfolding row_for
 row_on-returns-in_err-claim m c xs p begins shown =
     let i = c.loop-turn.invariant xs p begins shown in
-    refused_by _ _ c.from_residual.result _ _ (i.1 ∙ while_stops _ _ 65536 c.loop-turn._turn i.0 c.args.self.now.text.now c.loop-turn.draft.at _ c.loop-turn-test.true (and_from _ _ (ap not (i.2.0 ∙ c.if-claim.false)) (eq-eqb _ (first_of c.args.row) (sym c.front.ensures ∙ c.if-front-first.false ∙ c.first.ensures))) (c.in_err-claim.ensures xs i.0 begins i.2.1)) c.from_residual.ensures.1
+    refused_by _ _ c.from_residual.result _ _ (i.1 ∙ while_stops _ _ _ _ _ _ _ _ c.loop-turn-test.true (and_from _ _ (ap not (i.2.0 ∙ c.if-claim.false)) (eq-eqb _ (first_of c.args.row) (sym c.front.ensures ∙ c.if-front-first.false ∙ c.first.ensures))) (c.in_err-claim.ensures xs i.0 begins i.2.1)) c.from_residual.ensures.1
 
 pub row_on-loop-turn-preserved : goal.row_on-loop-turn-preserved
 unfolding row_for
 row_on-loop-turn-preserved m c xs p begins shown =
     let i = c.loop-turn.invariant xs p begins shown in
     let n = c.in_ok-claim.ensures xs i.0 begins i.2.1 in
-    (n.0, i.1 ∙ while_goes _ _ 65536 c.loop-turn._turn i.0 c.args.self.now.text.now c.loop-turn.draft.at n.0 _ c.loop-turn-test.true (and_from _ _ (ap not (i.2.0 ∙ c.if-claim.false)) (eq-eqb _ (first_of c.args.row) (sym c.front.ensures ∙ c.if-front-first.false ∙ c.first.ensures))) n.1, n.2)
+    (n.0, i.1 ∙ while_goes _ _ _ _ _ _ _ n.0 _ c.loop-turn-test.true (and_from _ _ (ap not (i.2.0 ∙ c.if-claim.false)) (eq-eqb _ (first_of c.args.row) (sym c.front.ensures ∙ c.if-front-first.false ∙ c.first.ensures))) n.1, n.2)
 
 pub row_on-returns : goal.row_on-returns
 unfolding row_for
 row_on-returns m c xs p begins shown =
     let i = c.loop-turn.invariant xs p begins shown in
-    (i.0, i.1 ∙ while-over _ _ 65536 c.loop-turn._turn i.0 c.args.self.now.text.now c.loop-turn.draft.at c.loop-turn-test.false, i.2)
+    (i.0, i.1 ∙ while-over _ _ _ _ _ _ _ c.loop-turn-test.false, i.2)
 
 pub row-returns-in_err-first : goal.row-returns-in_err-first
 row-returns-in_err-first m c xs held =
@@ -113,21 +113,21 @@ row-returns m c xs held =
 pub implication-returns-in_err-first : goal.implication-returns-in_err-first
 unfolding implication
 implication-returns-in_err-first m c xs held =
-    refused_by _ _ c.from_residual.result _ _ (stops (disjunction c.args.self.now.names.now (nest c.args.self.now.names.now c.args.depth)) _ _ _ _ (c.in_err-first.ensures xs held)) c.from_residual.ensures.1
+    refused_by _ _ c.from_residual.result _ _ (stops _ _ _ _ _ (c.in_err-first.ensures xs held)) c.from_residual.ensures.1
 
 pub implication-returns-in_default : goal.implication-returns-in_default
 unfolding implication on_claim run
 implication-returns-in_default m c xs held =
     let a = c.in_ok-first.ensures xs held in
     let t = term_stands _ _ _ _ a.2 c.in_default.is in
-    (OfTerm t.0, run_on (disjunction c.args.self.now.names.now (nest c.args.self.now.names.now c.args.depth)) _ _ _ _ _ (a.1 ∙ ap (λ z. Read z c.row.new.draft.at) t.1), t.2)
+    (OfTerm t.0, run_on _ _ _ _ _ _ (a.1 ∙ ap (λ z. Read z c.row.new.draft.at) t.1), t.2)
 
 pub implication-returns-in_err-chained : goal.implication-returns-in_err-chained
 unfolding implication on_claim
 implication-returns-in_err-chained m c xs held =
     let a = c.in_ok-first.ensures xs held in
     let q = claims _ _ _ _ _ c.args.self.now.text.now c.row.new.draft.at a.2 c.in-Some.is in
-    refused_by _ _ c.from_residual-in_err-chained.result _ _ (run_on (disjunction c.args.self.now.names.now (nest c.args.self.now.names.now c.args.depth)) _ _ _ _ _ (a.1 ∙ ap (λ z. Read z c.row.new.draft.at) q.1) ∙ stops _ _ _ _ _ (c.in_err-chained.ensures xs q.0 held.counted q.3)) c.from_residual-in_err-chained.ensures.1
+    refused_by _ _ c.from_residual-in_err-chained.result _ _ (run_on _ _ _ _ _ _ (a.1 ∙ ap (λ z. Read z c.row.new.draft.at) q.1) ∙ stops _ _ _ _ _ (c.in_err-chained.ensures xs q.0 held.counted q.3)) c.from_residual-in_err-chained.ensures.1
 
 pub implication-returns : goal.implication-returns
 unfolding implication on_claim run
@@ -135,7 +135,7 @@ implication-returns m c xs held =
     let a = c.in_ok-first.ensures xs held in
     let q = claims _ _ _ _ _ c.args.self.now.text.now c.row.new.draft.at a.2 c.in-Some.is in
     let n = c.in_ok-chained.ensures xs q.0 held.counted q.3 in
-    (OfClaim n.0, run_on (disjunction c.args.self.now.names.now (nest c.args.self.now.names.now c.args.depth)) _ _ _ _ _ (a.1 ∙ ap (λ z. Read z c.row.new.draft.at) q.1) ∙ run_on _ _ _ _ _ _ n.1, n.2)
+    (OfClaim n.0, run_on _ _ _ _ _ _ (a.1 ∙ ap (λ z. Read z c.row.new.draft.at) q.1) ∙ run_on _ _ _ _ _ _ n.1, n.2)
 
 pub arrow_next-returns-in_err-arrow_behind : goal.arrow_next-returns-in_err-arrow_behind
 unfolding chain_next
@@ -145,7 +145,7 @@ arrow_next-returns-in_err-arrow_behind m c xs s arrow held =
 pub arrow_next-returns-in_err-row : goal.arrow_next-returns-in_err-row
 unfolding chain_next
 arrow_next-returns-in_err-row m c xs s arrow held =
-    chain_refused s _ _ c.from_residual-in_err-row.result _ _ (run_on _ _ _ _ _ _ (ap (λ b. run (arrow_behind b) c.args.self.now.text.now c.args.draft.now.at) arrow ∙ c.in_ok-arrow_behind.ensures) ∙ stops (disjunction c.args.self.now.names.now (nest c.args.self.now.names.now c.args.depth)) _ _ _ _ (c.in_err-row.ensures xs held)) c.from_residual-in_err-row.ensures.1
+    chain_refused s _ _ c.from_residual-in_err-row.result _ _ (run_on _ _ _ _ _ _ (ap (λ b. run (arrow_behind b) c.args.self.now.text.now c.args.draft.now.at) arrow ∙ c.in_ok-arrow_behind.ensures) ∙ stops _ _ _ _ _ (c.in_err-row.ensures xs held)) c.from_residual-in_err-row.ensures.1
 
 pub chained-loop-turn-init : goal.chained-loop-turn-init
 unfolding chained chain_words
@@ -165,8 +165,8 @@ chained-returns-then-front-ne45 m c xs p begins shown =
     let i = c.loop-turn.invariant xs p begins shown in
     let all : Holds c.loop-turn.draft.sheet (xs ++ formula_words (implied i.0.before i.0.last.formula)) =
     same_words c.loop-turn.draft.sheet (xs ++ (chain_words i.0.before ++ formula_words i.0.last.formula)) _ (ap (λ l. xs ++ l) (sym (implied_words i.0.before i.0.last.formula)))
-    (regrouped c.loop-turn.draft.sheet xs (chain_words i.0.before) (formula_words i.0.last.formula) i.3.1) in
-    (record { formula = implied i.0.before i.0.last.formula; arrow = false }, i.1 ∙ run_on _ concluded _ _ i.0 _ (while-ended _ _ _ i.0 c.args.self.now.text.now c.loop-turn.draft.at (or_from _ _ (i.3.0 ∙ sym (not-not _) ∙ ap not c.if-not-claim.true) (ne_eqb _ 45 (λ e. c.if-front-ne45.true (c.front.ensures ∙ e))))), (refl, all))
+    (regrouped _ xs _ _ i.3.1) in
+    (record { formula = implied i.0.before i.0.last.formula; arrow = false }, i.1 ∙ run_on _ concluded _ _ i.0 _ (while-ended _ _ _ _ _ _ (or_from _ _ (i.3.0 ∙ sym (not-not _) ∙ ap not c.if-not-claim.true) (ne_eqb _ 45 (λ e. c.if-front-ne45.true (c.front.ensures ∙ e))))), (refl, all))
 
 pub chained-returns : goal.chained-returns
 unfolding chain_for concluded run
@@ -174,8 +174,8 @@ chained-returns m c xs p begins shown =
     let i = c.loop-turn.invariant xs p begins shown in
     let all : Holds c.loop-turn.draft.sheet (xs ++ formula_words (implied i.0.before i.0.last.formula)) =
     same_words c.loop-turn.draft.sheet (xs ++ (chain_words i.0.before ++ formula_words i.0.last.formula)) _ (ap (λ l. xs ++ l) (sym (implied_words i.0.before i.0.last.formula)))
-    (regrouped c.loop-turn.draft.sheet xs (chain_words i.0.before) (formula_words i.0.last.formula) i.3.1) in
-    (record { formula = implied i.0.before i.0.last.formula; arrow = false }, i.1 ∙ run_on _ concluded _ _ i.0 _ (while-over _ _ 65536 c.loop-turn._turn i.0 c.args.self.now.text.now c.loop-turn.draft.at c.loop-turn-test.false), (refl, all))
+    (regrouped _ xs _ _ i.3.1) in
+    (record { formula = implied i.0.before i.0.last.formula; arrow = false }, i.1 ∙ run_on _ concluded _ _ i.0 _ (while-over _ _ _ _ _ _ _ c.loop-turn-test.false), (refl, all))
 
 pub chained-returns-in_err-claim : goal.chained-returns-in_err-claim
 unfolding chain_for chain_words
@@ -188,8 +188,8 @@ chained-returns-in_err-claim m c xs p begins shown =
     ] in
     let before = i.0.last.formula ∷ i.0.before in
     let implying : Holds c.imply.new.self (xs ++ chain_words before) =
-    regrouped c.imply.new.self xs (chain_words i.0.before) (pos 5 ∷ pos 3 ∷ formula_words i.0.last.formula) (c.imply.ensures (xs ++ chain_words i.0.before) (formula_words i.0.last.formula) i.2 i.3.1) in
-    refused_by _ _ c.from_residual.result _ _ (i.1 ∙ stops _ concluded _ _ _ (while_stops _ _ 65536 c.loop-turn._turn i.0 c.args.self.now.text.now c.loop-turn.draft.at _ c.loop-turn-test.true goes (c.in_err-claim.ensures (xs ++ chain_words before) i.0 i.3.0 implying))) c.from_residual.ensures.1
+    regrouped _ xs _ _ (c.imply.ensures (xs ++ chain_words i.0.before) (formula_words i.0.last.formula) i.2 i.3.1) in
+    refused_by _ _ c.from_residual.result _ _ (i.1 ∙ stops _ concluded _ _ _ (while_stops _ _ _ _ _ _ _ _ c.loop-turn-test.true goes (c.in_err-claim.ensures (xs ++ chain_words before) i.0 i.3.0 implying))) c.from_residual.ensures.1
 
 pub chained-loop-turn-preserved : goal.chained-loop-turn-preserved
 unfolding chain_for chain_words
@@ -202,10 +202,10 @@ chained-loop-turn-preserved m c xs p begins shown =
     ] in
     let before = i.0.last.formula ∷ i.0.before in
     let implying : Holds c.imply.new.self (xs ++ chain_words before) =
-    regrouped c.imply.new.self xs (chain_words i.0.before) (pos 5 ∷ pos 3 ∷ formula_words i.0.last.formula) (c.imply.ensures (xs ++ chain_words i.0.before) (formula_words i.0.last.formula) i.2 i.3.1) in
+    regrouped _ xs _ _ (c.imply.ensures (xs ++ chain_words i.0.before) (formula_words i.0.last.formula) i.2 i.3.1) in
     let n = c.in_ok-claim.ensures (xs ++ chain_words before) i.0 i.3.0 implying in (
       record { before = before; last = n.0 },
-      i.1 ∙ bind_same _ _ concluded _ _ _ (while_goes _ _ 65536 c.loop-turn._turn i.0 c.args.self.now.text.now c.loop-turn.draft.at (record { before = before; last = n.0 }) _ c.loop-turn-test.true goes n.1),
+      i.1 ∙ bind_same _ _ concluded _ _ _ (while_goes _ _ _ _ _ _ _ (record { before = before; last = n.0 }) _ c.loop-turn-test.true goes n.1),
       implying.counted,
       n.2,
     )
@@ -288,7 +288,7 @@ pub arrow_next-returns : goal.arrow_next-returns
 unfolding chain_next run
 arrow_next-returns m c xs s arrow held =
     let a = c.in_ok-row.ensures xs held in
-    chain_claimed s _ c.args.self.now.text.now c.row.new.draft.sheet xs a.0 c.in_ok-row.field-0 c.ok_or.result c.row.new.draft.at (run_on _ _ _ _ _ _ (ap (λ b. run (arrow_behind b) c.args.self.now.text.now c.args.draft.now.at) arrow ∙ c.in_ok-arrow_behind.ensures) ∙ run_on (disjunction c.args.self.now.names.now (nest c.args.self.now.names.now c.args.depth)) _ _ _ _ _ a.1) a.2 c.ok_or.ensures.value
+    chain_claimed s _ c.args.self.now.text.now c.row.new.draft.sheet xs a.0 c.in_ok-row.field-0 c.ok_or.result c.row.new.draft.at (run_on _ _ _ _ _ _ (ap (λ b. run (arrow_behind b) c.args.self.now.text.now c.args.draft.now.at) arrow ∙ c.in_ok-arrow_behind.ensures) ∙ run_on _ _ _ _ _ _ a.1) a.2 c.ok_or.ensures.value
 
 pub atom-returns-in-40 : goal.atom-returns-in-40
 unfolding atom_of

@@ -31,7 +31,7 @@ added-returns m c xs t begins held =
     let p = c.in_ok-product.ensures (xs ++ term_words t) held in (
       record { term = Sum t p.0; arrow = false },
       goes_on _ _ _ _ _ _ c.in_ok-sign.ensures ∙ goes_on _ _ _ _ _ _ p.1,
-      (refl, c.insert.ensures xs (term_words t ++ term_words p.0) begins (regrouped c.product.new.draft.sheet xs (term_words t) (term_words p.0) p.2)),
+      (refl, c.insert.ensures xs (term_words t ++ term_words p.0) begins (regrouped _ xs _ _ p.2)),
     )
 
 pub factor-returns-in_err-primary : goal.factor-returns-in_err-primary
@@ -111,7 +111,7 @@ unfolding plus_for
 plus-returns-then-not-begins_summand m c xs t begins held =
     let i = c.loop-turn.invariant xs t begins held in (
       record { term = i.0; arrow = false },
-      i.1 ∙ while-ended _ _ _ (record { term = i.0; arrow = false }) c.args.self.now.text.now c.loop-turn.draft.at
+      i.1 ∙ while-ended _ _ _ _ _ _
           (ap is_summand_sign (sym c.front.ensures) ∙ sym c.if-not-begins_summand.ensures),
       (refl, i.2),
     )
@@ -121,7 +121,7 @@ unfolding plus_for plus_next run
 plus-returns-in_err-plus_next m c xs t begins held =
     let i = c.loop-turn.invariant xs t begins held in
     let sign-here = ap is_summand_sign (sym c.front.ensures) ∙ sym c.if-not-begins_summand.ensures in
-    refused_by _ _ c.from_residual.result _ _ (i.1 ∙ while_stops _ _ 65536 c.loop-turn._turn (record { term = i.0; arrow = false }) c.args.self.now.text.now c.loop-turn.draft.at _ c.loop-turn-test.true sign-here (c.in_err-plus_next.ensures xs i.0 begins i.2)) c.from_residual.ensures.1
+    refused_by _ _ c.from_residual.result _ _ (i.1 ∙ while_stops _ _ _ _ _ _ _ _ c.loop-turn-test.true sign-here (c.in_err-plus_next.ensures xs i.0 begins i.2)) c.from_residual.ensures.1
 
 pub plus-returns-then-branch : goal.plus-returns-then-branch
 unfolding plus_for plus_next run
@@ -130,8 +130,8 @@ plus-returns-then-branch m c xs t begins held =
     let sign-here = ap is_summand_sign (sym c.front.ensures) ∙ sym c.if-not-begins_summand.ensures in
     let n = c.in_ok-plus_next.ensures xs i.0 begins i.2 in (
       n.0,
-      i.1 ∙ while_goes _ _ 65536 c.loop-turn._turn (record { term = i.0; arrow = false }) c.args.self.now.text.now c.loop-turn.draft.at n.0 _ c.loop-turn-test.true sign-here n.1 ∙
-          while-ended _ _ _ n.0 c.args.self.now.text.now c.plus_next.new.draft.at (and_left _ _ (ap not (n.2.0 ∙ c.if-branch.true))),
+      i.1 ∙ while_goes _ _ _ _ _ _ _ n.0 _ c.loop-turn-test.true sign-here n.1 ∙
+          while-ended _ _ _ _ _ _ (and_left _ _ (ap not (n.2.0 ∙ c.if-branch.true))),
       (n.2.0 ∙ c.if-branch.true, n.2.1),
     )
 
@@ -142,7 +142,7 @@ plus-loop-turn-preserved m c xs t begins held =
     let sign-here = ap is_summand_sign (sym c.front.ensures) ∙ sym c.if-not-begins_summand.ensures in
     let n = c.in_ok-plus_next.ensures xs i.0 begins i.2 in (
       n.0.term,
-      i.1 ∙ while_goes _ _ 65536 c.loop-turn._turn (record { term = i.0; arrow = false }) c.args.self.now.text.now c.loop-turn.draft.at n.0 _ c.loop-turn-test.true sign-here n.1 ∙
+      i.1 ∙ while_goes _ _ _ _ _ _ _ n.0 _ c.loop-turn-test.true sign-here n.1 ∙
           ap (λ b. run (plus_for (65536 - (c.loop-turn._turn + 1)) c.args.self.now.names.now (nest c.args.self.now.names.now c.args.depth) c.args.may_arrow (record { term = n.0.term; arrow = b })) c.args.self.now.text.now c.plus_next.new.draft.at) (n.2.0 ∙ c.if-branch.false),
       n.2.1,
     )
@@ -151,7 +151,7 @@ pub plus-returns : goal.plus-returns
 unfolding plus_for
 plus-returns m c xs t begins held =
     let i = c.loop-turn.invariant xs t begins held in
-    (record { term = i.0; arrow = false }, i.1 ∙ while-over _ _ 65536 c.loop-turn._turn (record { term = i.0; arrow = false }) c.args.self.now.text.now c.loop-turn.draft.at c.loop-turn-test.false, (refl, i.2))
+    (record { term = i.0; arrow = false }, i.1 ∙ while-over _ _ _ _ _ _ _ c.loop-turn-test.false, (refl, i.2))
 
 pub plus_next-returns-then-front-eq43 : goal.plus_next-returns-then-front-eq43
 unfolding summand_of
@@ -194,7 +194,7 @@ primary-returns-then-is_digit m c xs held = (
   Num (pos c.number-number.result),
   passed_over _ _ _ _ _ (ap is_letter (sym c.front-c.ensures) ∙ sym c.if-is_letter.ensures) ∙ chose _ _ _ _ _ (ap is_digit (sym c.front-c.ensures) ∙ sym c.if-is_digit.ensures) ∙ goes_on _ _ _ _ _ _ c.number-number.ensures,
   let fits : SFits w64 (pos c.number-number.result) = search rules in
-      regrouped c.put-then-is_digit.new.self xs (pos 7 ∷ []) (pos c.number-number.result ∷ [])
+      regrouped _ xs _ _
       (same_words c.put-then-is_digit.new.self _ _ (ap (λ u. (xs ++ (pos 7 ∷ [])) ++ (u ∷ [])) (to_z-of_z w64 (pos c.number-number.result) fits)) (c.put-then-is_digit.ensures (xs ++ (pos 7 ∷ [])) (c.put.ensures xs held))),
 )
 
@@ -239,7 +239,7 @@ taken-returns m c xs t begins held =
       (
         refl,
         c.insert.ensures xs (term_words t ++ term_words (negative p.0)) begins
-            (regrouped c.negate.new.self xs (term_words t) (term_words (negative p.0)) (c.negate.ensures (xs ++ term_words t) (term_words p.0) held.counted p.2)),
+            (regrouped _ xs _ _ (c.negate.ensures (xs ++ term_words t) (term_words p.0) held.counted p.2)),
       ),
     )
 
@@ -247,26 +247,26 @@ pub times-returns-then-front-ne42 : goal.times-returns-then-front-ne42
 unfolding times_for
 times-returns-then-front-ne42 m c xs t begins held =
     let i = c.loop-turn.invariant xs t begins held in
-    (i.0, i.1 ∙ while-ended _ _ _ i.0 c.args.self.now.text.now c.loop-turn.draft.at (ne_eqb _ 42 (λ e. c.if-front-ne42.true (c.front.ensures ∙ e))), i.2)
+    (i.0, i.1 ∙ while-ended _ _ _ _ _ _ (ne_eqb _ 42 (λ e. c.if-front-ne42.true (c.front.ensures ∙ e))), i.2)
 
 pub times-returns-in_err-times_next : goal.times-returns-in_err-times_next
 unfolding times_for
 times-returns-in_err-times_next m c xs t begins held =
     let i = c.loop-turn.invariant xs t begins held in
-    refused_by _ _ c.from_residual.result _ _ (i.1 ∙ while_stops _ _ 65536 c.loop-turn._turn i.0 c.args.self.now.text.now c.loop-turn.draft.at _ c.loop-turn-test.true (eq-eqb _ 42 (sym c.front.ensures ∙ c.if-front-ne42.false)) (c.in_err-times_next.ensures xs i.0 begins i.2)) c.from_residual.ensures.1
+    refused_by _ _ c.from_residual.result _ _ (i.1 ∙ while_stops _ _ _ _ _ _ _ _ c.loop-turn-test.true (eq-eqb _ 42 (sym c.front.ensures ∙ c.if-front-ne42.false)) (c.in_err-times_next.ensures xs i.0 begins i.2)) c.from_residual.ensures.1
 
 pub times-loop-turn-preserved : goal.times-loop-turn-preserved
 unfolding times_for
 times-loop-turn-preserved m c xs t begins held =
     let i = c.loop-turn.invariant xs t begins held in
     let n = c.in_ok-times_next.ensures xs i.0 begins i.2 in
-    (n.0, i.1 ∙ while_goes _ _ 65536 c.loop-turn._turn i.0 c.args.self.now.text.now c.loop-turn.draft.at n.0 _ c.loop-turn-test.true (eq-eqb _ 42 (sym c.front.ensures ∙ c.if-front-ne42.false)) n.1, n.2)
+    (n.0, i.1 ∙ while_goes _ _ _ _ _ _ _ n.0 _ c.loop-turn-test.true (eq-eqb _ 42 (sym c.front.ensures ∙ c.if-front-ne42.false)) n.1, n.2)
 
 pub times-returns : goal.times-returns
 unfolding times_for
 times-returns m c xs t begins held =
     let i = c.loop-turn.invariant xs t begins held in
-    (i.0, i.1 ∙ while-over _ _ 65536 c.loop-turn._turn i.0 c.args.self.now.text.now c.loop-turn.draft.at c.loop-turn-test.false, i.2)
+    (i.0, i.1 ∙ while-over _ _ _ _ _ _ _ c.loop-turn-test.false, i.2)
 
 pub times_next-returns-in_err-sign : goal.times_next-returns-in_err-sign
 unfolding times_next
@@ -284,5 +284,5 @@ times_next-returns m c xs t begins held =
     let p = c.in_ok-factor.ensures (xs ++ term_words t) held in (
       Product t p.0,
       goes_on _ _ _ _ _ _ c.in_ok-sign.ensures ∙ goes_on _ _ _ _ _ _ p.1,
-      c.insert.ensures xs (term_words t ++ term_words p.0) begins (regrouped c.factor.new.draft.sheet xs (term_words t) (term_words p.0) p.2),
+      c.insert.ensures xs (term_words t ++ term_words p.0) begins (regrouped _ xs _ _ p.2),
     )

@@ -33,6 +33,6 @@ returns c xs held = (
       ap (λ o. run (elim o [ None ↦ Refuse (Wrong c.args.word.length) | Some i ↦ blanks >> Give i ]) c.args.self.now.text.now c.args.draft.now.at) (sym c.in-Some.ensures.value) ∙
       goes_on _ _ _ _ _ _ c.blanks.ensures),
   let fits : SFits w64 (pos c.in-Some.i) = search rules in
-      regrouped c.put-2.new.self xs (pos 6 ∷ []) (pos c.in-Some.i ∷ [])
+      regrouped _ xs _ _
       (same_words c.put-2.new.self _ _ (ap (λ u. (xs ++ (pos 6 ∷ [])) ++ (u ∷ [])) (to_z-of_z w64 (pos c.in-Some.i) fits)) (c.put-2.ensures (xs ++ (pos 6 ∷ [])) (c.put.ensures xs held))),
 )
