@@ -3,6 +3,7 @@ ghost use Rattle.std.specs.Prelude.{◌≡◌, slice_index};
 ghost use Rattle.grammar.specs.Formulas.{begins_relation, relation_of, or_equal, comparison_of, from_product, from_primary, denied, from_word, enclosed, atom_of, row_next, row_for, disjunction, arrow_behind, chain_next, chained, implication};
 ghost use Rattle.grammar.specs.Nesting.{nest};
 ghost use Rattle.grammar.specs.Reader.{run};
+ghost use Rattle.grammar.specs.Tokens.{longest};
 ghost use Rattle.text.specs.Claims.{WritesPiece, ExtendsPiece, ExtendsClaim, NextClaim, ArrowNext, ExtendsChain};
 ghost use Rattle.text.specs.Outcome.{outcome_of};
 ghost use Rattle.text.specs.Row.{first_of, between_of, join_of, operand_of, row_of};
@@ -16,6 +17,7 @@ use crate::term::is_word;
 use grammar::fault::Fault;
 use grammar::relation::Relation;
 use grammar::word::Word;
+use words::kind::Kind;
 
 pub fn begins_relation(c: u8) -> bool
     ensures { result ≡ begins_relation c }
@@ -116,7 +118,7 @@ impl Source<'_> {
         }
         let from = draft.sheet.count;
         let claim = self.atom(draft, depth - 1)?.ok_or(Fault::Unfit)?;
-        draft.sheet.insert(from, 3);
+        draft.sheet.insert_kind(from, Kind::Not);
         Ok(Some(claim))
     }
 
@@ -225,7 +227,7 @@ impl Source<'_> {
         from: usize,
         mut claim: Claim,
     ) -> Result<Claim, Fault>
-        ensures { ExtendsClaim self.now (row_for 65536 (first_of row) (between_of row) (join_of row) (operand_of row self.now.names.now (nest self.now.names.now depth))) claim result from draft.old draft.new }
+        ensures { ExtendsClaim self.now (row_for longest (first_of row) (between_of row) (join_of row) (operand_of row self.now.names.now (nest self.now.names.now depth))) claim result from draft.old draft.new }
     {
         for _turn in 0..LONGEST {
             if claim.arrow || self.front(draft.at) != row.first() {

@@ -12,6 +12,7 @@ use crate::draft::Draft;
 use crate::source::{LONGEST, Source, position};
 use grammar::fault::Fault;
 use grammar::word::Word;
+use words::kind::Kind;
 
 // Whether a word has these letters.
 pub fn is_word(word: Word, letters: &[u8; 8]) -> bool
@@ -50,7 +51,7 @@ impl Source<'_> {
             return Err(Fault::Wrong(word.length));
         };
         self.blanks(&mut draft.at);
-        draft.sheet.put(6);
+        draft.sheet.put_kind(Kind::Variable);
         draft.sheet.put(i as i64);
         Ok(())
     }
@@ -80,7 +81,7 @@ impl Source<'_> {
             }
             c if is_digit(c) => {
                 let number = self.number(&mut draft.at);
-                draft.sheet.put(7);
+                draft.sheet.put_kind(Kind::Number);
                 draft.sheet.put(number as i64);
                 Ok(())
             }
@@ -122,7 +123,7 @@ impl Source<'_> {
     {
         self.sign(&mut draft.at, b"*")?;
         self.factor(draft, depth)?;
-        draft.sheet.insert(from, 9);
+        draft.sheet.insert_kind(from, Kind::Product);
         Ok(())
     }
 
@@ -158,7 +159,7 @@ impl Source<'_> {
         let middle = draft.sheet.count;
         self.product(draft, depth)?;
         draft.sheet.negate(middle);
-        draft.sheet.insert(from, 8);
+        draft.sheet.insert_kind(from, Kind::Sum);
         Ok(false)
     }
 
@@ -169,7 +170,7 @@ impl Source<'_> {
     {
         self.sign(&mut draft.at, b"+")?;
         self.product(draft, depth)?;
-        draft.sheet.insert(from, 8);
+        draft.sheet.insert_kind(from, Kind::Sum);
         Ok(false)
     }
 

@@ -11,8 +11,8 @@ loop-turn-init c xs ys begins held = held
 pub loop-turn-preserved : goal.loop-turn-preserved
 unfolding products
 loop-turn-preserved c xs ys begins held =
-    same_words c.insert.new.self (xs ++ (products (suc c.loop-turn._turn) ++ ys)) (xs ++ (products (c.loop-turn._turn + 1) ++ ys)) (ap (λ n. xs ++ (products n ++ ys)) (sym (add-one c.loop-turn._turn)))
-    (c.insert.ensures xs (products c.loop-turn._turn ++ ys) begins (c.loop-turn.invariant xs ys begins held))
+    same_words c.insert_kind.new.self (xs ++ (products (suc c.loop-turn._turn) ++ ys)) (xs ++ (products (c.loop-turn._turn + 1) ++ ys)) (ap (λ n. xs ++ (products n ++ ys)) (sym (add-one c.loop-turn._turn)))
+    (c.insert_kind.ensures xs (products c.loop-turn._turn ++ ys) begins (c.loop-turn.invariant xs ys begins held))
 
 pub returns : goal.returns
 returns c xs ys begins held =

@@ -231,7 +231,7 @@ unfolding denied atom run formula_words nest
 denied-returns m c xs held =
     let a = c.in_ok-atom.ensures xs held in
     let q = claims _ _ _ _ _ c.args.self.now.text.now c.atom.new.draft.at a.2 c.in_ok-claim.ensures.ok_part in
-    (OfClaim (record { formula = Not q.0.formula; arrow = q.0.arrow }), run_on _ _ _ _ _ _ c.blanks.ensures ∙ run_on _ _ _ _ _ _ (ap (λ d. run (nest c.args.self.now.names.now d).atom c.args.self.now.text.now c.blanks.new.at) (one_deeper c.if-depth-eq0.false) ∙ a.1) ∙ run_on _ _ _ _ _ _ q.2, (q.3.0, c.insert.ensures xs (formula_words q.0.formula) held.counted q.3.1))
+    (OfClaim (record { formula = Not q.0.formula; arrow = q.0.arrow }), run_on _ _ _ _ _ _ c.blanks.ensures ∙ run_on _ _ _ _ _ _ (ap (λ d. run (nest c.args.self.now.names.now d).atom c.args.self.now.text.now c.blanks.new.at) (one_deeper c.if-depth-eq0.false) ∙ a.1) ∙ run_on _ _ _ _ _ _ q.2, (q.3.0, c.insert_kind.ensures xs (formula_words q.0.formula) held.counted q.3.1))
 
 pub from_word-returns-then-is_word : goal.from_word-returns-then-is_word
 unfolding from_word

@@ -31,7 +31,7 @@ added-returns m c xs t begins held =
     let p = c.in_ok-product.ensures (xs ++ term_words t) held in (
       record { term = Sum t p.0; arrow = false },
       goes_on _ _ _ _ _ _ c.in_ok-sign.ensures ∙ goes_on _ _ _ _ _ _ p.1,
-      (refl, c.insert.ensures xs (term_words t ++ term_words p.0) begins (regrouped _ xs _ _ p.2)),
+      (refl, c.insert_kind.ensures xs (term_words t ++ term_words p.0) begins (regrouped _ xs _ _ p.2)),
     )
 
 pub factor-returns-in_err-primary : goal.factor-returns-in_err-primary
@@ -195,7 +195,7 @@ primary-returns-then-is_digit m c xs held = (
   passed_over _ _ _ _ _ (ap is_letter (sym c.front-c.ensures) ∙ sym c.if-is_letter.ensures) ∙ chose _ _ _ _ _ (ap is_digit (sym c.front-c.ensures) ∙ sym c.if-is_digit.ensures) ∙ goes_on _ _ _ _ _ _ c.number-number.ensures,
   let fits : SFits w64 (pos c.number-number.result) = search rules in
       regrouped _ xs _ _
-      (same_words c.put-then-is_digit.new.self _ _ (ap (λ u. (xs ++ (pos 7 ∷ [])) ++ (u ∷ [])) (to_z-of_z w64 (pos c.number-number.result) fits)) (c.put-then-is_digit.ensures (xs ++ (pos 7 ∷ [])) (c.put.ensures xs held))),
+      (same_words c.put.new.self _ _ (ap (λ u. (xs ++ (pos 7 ∷ [])) ++ (u ∷ [])) (to_z-of_z w64 (pos c.number-number.result) fits)) (c.put.ensures (xs ++ (pos 7 ∷ [])) (c.put_kind.ensures xs held))),
 )
 
 pub primary-returns-else-is_digit : goal.primary-returns-else-is_digit
@@ -238,7 +238,7 @@ taken-returns m c xs t begins held =
       goes_on _ _ _ _ _ _ c.blanks.ensures ∙ goes_on _ _ _ _ _ _ p.1,
       (
         refl,
-        c.insert.ensures xs (term_words t ++ term_words (negative p.0)) begins
+        c.insert_kind.ensures xs (term_words t ++ term_words (negative p.0)) begins
             (regrouped _ xs _ _ (c.negate.ensures (xs ++ term_words t) (term_words p.0) held.counted p.2)),
       ),
     )
@@ -284,5 +284,5 @@ times_next-returns m c xs t begins held =
     let p = c.in_ok-factor.ensures (xs ++ term_words t) held in (
       Product t p.0,
       goes_on _ _ _ _ _ _ c.in_ok-sign.ensures ∙ goes_on _ _ _ _ _ _ p.1,
-      c.insert.ensures xs (term_words t ++ term_words p.0) begins (regrouped _ xs _ _ p.2),
+      c.insert_kind.ensures xs (term_words t ++ term_words p.0) begins (regrouped _ xs _ _ p.2),
     )
