@@ -4,7 +4,7 @@ ghost use Rattle.std.specs.Str.{bytes_eq};
 ghost use Rattle.grammar.specs.Characters.{is_reserved};
 ghost use Rattle.grammar.specs.Nesting.{nest};
 ghost use Rattle.grammar.specs.Reader.{run};
-ghost use Rattle.grammar.specs.Terms.{named, grouped, primary_of, raised, factor, times_next, times, product, taken, added, summand_of, is_summand_sign, plus, negated, leading_of, sum};
+ghost use Rattle.grammar.specs.Terms.{named, grouped, primary_of, is_exponent, raised, factor, times_next, times, product, taken, added, summand_of, is_summand_sign, plus, negated, leading_of, sum};
 ghost use Rattle.text.specs.Reads.{WritesTerm, ExtendsTerm, WritesSum, ExtendsSum};
 
 use crate::character::{is_digit, is_letter};
@@ -30,6 +30,12 @@ pub fn is_reserved(word: Word) -> bool
         || is_word(word, b"and\0\0\0\0\0")
         || is_word(word, b"or\0\0\0\0\0\0")
         || is_word(word, b"not\0\0\0\0\0")
+}
+
+fn is_exponent(c: u8) -> bool
+    ensures { result ≡ is_exponent c }
+{
+    matches!(c, b'1'..=b'8')
 }
 
 // Whether a summand more begins like this.
@@ -107,7 +113,7 @@ impl Source<'_> {
         }
         self.sign(&mut draft.at, b"^")?;
         let digit = self.front(draft.at);
-        if digit < b'1' || digit > b'8' {
+        if !is_exponent(digit) {
             return Err(Fault::Unfit);
         }
         self.pass(&mut draft.at);

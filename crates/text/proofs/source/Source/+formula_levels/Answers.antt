@@ -11,7 +11,7 @@ use Rattle.grammar.specs.Reader.{run, Read}
 use Rattle.grammar.specs.Terms.{OfTerm, OfClaim}
 use Rattle.grammar.proofs.Runs.{goes_on as run_on, stops, while_goes, while_stops, while-ended, while-over}
 use Rattle.text.specs.Claims.{chain_words}
-use Rattle.text.specs.Row.{first_of, join_of, operand_of}
+use Rattle.text.specs.Row.{first_of, join_of}
 use Rattle.text.specs.Sheet.{Holds}
 use Rattle.text.proofs.Chains.{chain_refused, chain_claimed, bind_same, implied_words}
 use Rattle.text.proofs.Rows.{row_runs}
@@ -23,7 +23,7 @@ use Rattle.text.proofs.source.Source.+formula_levels.Goals.{row_on-then-claim-vi
 pub operand-returns-in-Conjunction : goal.operand-returns-in-Conjunction
 unfolding atom run
 operand-returns-in-Conjunction m c xs held =
-    read_by _ _ _ c.atom.result _ (ap (λ r. run (operand_of r c.args.self.now.names.now (nest c.args.self.now.names.now c.args.depth)) c.args.self.now.text.now c.args.draft.now.at) c.in-Conjunction.is) (c.atom.ensures xs held)
+    rw c.in-Conjunction.is (c.atom.ensures xs held)
 
 pub row_next-returns-in_err-between : goal.row_next-returns-in_err-between
 unfolding row_next
