@@ -2,7 +2,7 @@
 use Rattle.std.proofs.Common.{sym, ◌≡◌, ◌∷◌, ◌++◌, map, length, take, pos, ap, ◌∙◌, arith, length-take, rules}
 use Rattle.std.proofs.lemmas.List.{take-map, length-map}
 use Rattle.grammar.specs.Formulas.{equivalence}
-use Rattle.grammar.specs.Meaning.{quantifier_word, formula_words, sentence_words}
+use Rattle.grammar.specs.Meaning.{quantifier_word, formula_words}
 use Rattle.grammar.specs.Nesting.{nest}
 use Rattle.grammar.specs.Reader.{run}
 use Rattle.grammar.specs.Text.{sentence}
@@ -48,6 +48,6 @@ returns c held =
     let long : c.in_ok-prefix.prefix.count ≡ length (prefix_of c.in_ok-prefix.prefix).quantifiers = omega (arith, length-map (take c.in_ok-prefix.prefix.count c.in_ok-prefix.prefix.quantifiers) every_of, length-take c.in_ok-prefix.prefix.count c.in_ok-prefix.prefix.quantifiers) in (
       record { quantifiers = (prefix_of c.in_ok-prefix.prefix).quantifiers; body = q.0.formula },
       goes_on _ _ _ _ _ _ c.blanks.ensures ∙ goes_on _ _ _ _ _ _ c.in_ok-prefix.ensures.0 ∙ goes_on _ _ _ _ _ _ c.in_ok-sign.ensures ∙ goes_on (equivalence (prefix_of c.in_ok-prefix.prefix).names (nest (prefix_of c.in_ok-prefix.prefix).names 200)) _ _ _ _ _ (ap (λ names. run (equivalence names (nest names 200)) c.args.text.now c.sign.new.at) (sym named) ∙ a.1) ∙ goes_on _ _ _ _ _ _ q.2,
-      same_words c.row.new.draft.sheet ((pos c.in_ok-prefix.prefix.count ∷ map quantifier_word (prefix_of c.in_ok-prefix.prefix).quantifiers) ++ formula_words q.0.formula) (sentence_words (record { quantifiers = (prefix_of c.in_ok-prefix.prefix).quantifiers; body = q.0.formula }))
+      same_words _ _ _
           (ap (λ n. pos n ∷ (map quantifier_word (prefix_of c.in_ok-prefix.prefix).quantifiers ++ formula_words q.0.formula)) long) q.3.1,
     )

@@ -155,7 +155,7 @@ chained-loop-turn-init m c xs p begins shown = (
   begins ∙ ap (λ l. min (length l) 1025) (sym (append-nil xs)),
   (
     shown.0,
-    same_words c.args.draft.now.sheet (xs ++ formula_words p.formula) ((xs ++ []) ++ formula_words p.formula) (ap (λ l. l ++ formula_words p.formula) (sym (append-nil xs))) shown.1,
+    same_words _ _ _ (ap (λ l. l ++ formula_words p.formula) (sym (append-nil xs))) shown.1,
   ),
 )
 
@@ -164,7 +164,7 @@ unfolding chain_for concluded run
 chained-returns-then-front-ne45 m c xs p begins shown =
     let i = c.loop-turn.invariant xs p begins shown in
     let all : Holds c.loop-turn.draft.sheet (xs ++ formula_words (implied i.0.before i.0.last.formula)) =
-    same_words c.loop-turn.draft.sheet (xs ++ (chain_words i.0.before ++ formula_words i.0.last.formula)) _ (ap (λ l. xs ++ l) (sym (implied_words i.0.before i.0.last.formula)))
+    same_words _ _ _ (ap (λ l. xs ++ l) (sym (implied_words i.0.before i.0.last.formula)))
     (regrouped _ xs _ _ i.3.1) in
     (record { formula = implied i.0.before i.0.last.formula; arrow = false }, i.1 ∙ run_on _ concluded _ _ i.0 _ (while-ended _ _ _ _ _ _ (or_from _ _ (i.3.0 ∙ sym (not-not _) ∙ ap not c.if-not-claim.true) (ne_eqb _ 45 (λ e. c.if-front-ne45.true (c.front.ensures ∙ e))))), (refl, all))
 
@@ -173,7 +173,7 @@ unfolding chain_for concluded run
 chained-returns m c xs p begins shown =
     let i = c.loop-turn.invariant xs p begins shown in
     let all : Holds c.loop-turn.draft.sheet (xs ++ formula_words (implied i.0.before i.0.last.formula)) =
-    same_words c.loop-turn.draft.sheet (xs ++ (chain_words i.0.before ++ formula_words i.0.last.formula)) _ (ap (λ l. xs ++ l) (sym (implied_words i.0.before i.0.last.formula)))
+    same_words _ _ _ (ap (λ l. xs ++ l) (sym (implied_words i.0.before i.0.last.formula)))
     (regrouped _ xs _ _ i.3.1) in
     (record { formula = implied i.0.before i.0.last.formula; arrow = false }, i.1 ∙ run_on _ concluded _ _ i.0 _ (while-over _ _ _ _ _ _ _ c.loop-turn-test.false), (refl, all))
 

@@ -195,7 +195,7 @@ primary-returns-then-is_digit m c xs held = (
   passed_over _ _ _ _ _ (ap is_letter (sym c.front-c.ensures) ∙ sym c.if-is_letter.ensures) ∙ chose _ _ _ _ _ (ap is_digit (sym c.front-c.ensures) ∙ sym c.if-is_digit.ensures) ∙ goes_on _ _ _ _ _ _ c.number-number.ensures,
   let fits : SFits w64 (pos c.number-number.result) = search rules in
       regrouped _ xs _ _
-      (same_words c.put.new.self _ _ (ap (λ u. (xs ++ (pos 7 ∷ [])) ++ (u ∷ [])) (to_z-of_z w64 (pos c.number-number.result) fits)) (c.put.ensures (xs ++ (pos 7 ∷ [])) (c.put_kind.ensures xs held))),
+      (same_words _ _ _ (ap (λ u. (xs ++ (pos 7 ∷ [])) ++ (u ∷ [])) (to_z-of_z w64 (pos c.number-number.result) fits)) (c.put.ensures (xs ++ (pos 7 ∷ [])) (c.put_kind.ensures xs held))),
 )
 
 pub primary-returns-else-is_digit : goal.primary-returns-else-is_digit

@@ -34,5 +34,5 @@ returns c xs held = (
       goes_on _ _ _ _ _ _ c.blanks.ensures),
   let fits : SFits w64 (pos c.in-Some.i) = search rules in
       regrouped _ xs _ _
-      (same_words c.put.new.self _ _ (ap (λ u. (xs ++ (pos 6 ∷ [])) ++ (u ∷ [])) (to_z-of_z w64 (pos c.in-Some.i) fits)) (c.put.ensures (xs ++ (pos 6 ∷ [])) (c.put_kind.ensures xs held))),
+      (same_words _ _ _ (ap (λ u. (xs ++ (pos 6 ∷ [])) ++ (u ∷ [])) (to_z-of_z w64 (pos c.in-Some.i) fits)) (c.put.ensures (xs ++ (pos 6 ∷ [])) (c.put_kind.ensures xs held))),
 )
