@@ -10,7 +10,7 @@ use Rattle.text.specs.declared.claim.Claim.{Claim as ReadClaim}
 use Rattle.text.specs.declared.draft.Draft.{Draft}
 use Rattle.text.specs.declared.sheet.Sheet.{Sheet}
 use Rattle.text.specs.declared.source.Source.{Source}
-use Rattle.text.specs.Reads.{DraftReads}
+use Rattle.text.specs.Reads.{ReadAs, Writes, Extends}
 use Rattle.text.specs.Sheet.{Holds, Behind}
 
 -- a formula's words behind others, and whether an arrow has been read
@@ -24,21 +24,19 @@ PieceShown after xs (OfClaim p) None = ⊥
 PieceShown after xs (OfClaim p) (Some c) = ClaimShown after xs p c
 
 abbrev pub WritesPiece : Source → Reader Piece → Result (Option ReadClaim) Fault → Draft → Draft → Type 0
-WritesPiece source reader r before after = (xs : List ℤ) → Holds before.sheet xs → DraftReads (PieceShown after.sheet xs) source reader r before after
+WritesPiece = Writes PieceShown
 
--- behind a term that begins at `from`
 abbrev pub ExtendsPiece : Source → (Term → Reader Piece) → Result (Option ReadClaim) Fault → ℕ → Draft → Draft → Type 0
-ExtendsPiece source go r from before after =
-    (xs : List ℤ) (t : Term) → Behind xs from → Holds before.sheet (xs ++ term_words t) → DraftReads (PieceShown after.sheet xs) source (go t) r before after
+ExtendsPiece = Extends PieceShown
 
 -- behind a formula that begins at `from`
 abbrev pub ExtendsClaim : Source → (Claim → Reader Claim) → ReadClaim → Result ReadClaim Fault → ℕ → Draft → Draft → Type 0
 ExtendsClaim source go c r from before after =
-    (xs : List ℤ) (p : Claim) → Behind xs from → ClaimShown before.sheet xs p c → DraftReads (ClaimShown after.sheet xs) source (go p) r before after
+    (xs : List ℤ) (p : Claim) → Behind xs from → ClaimShown before.sheet xs p c → ReadAs (ClaimShown after.sheet xs) (run (go p) source.text.now before.at) r after.at
 
 abbrev pub NextClaim : Source → (Claim → Reader Claim) → Result ReadClaim Fault → ℕ → Draft → Draft → Type 0
 NextClaim source go r from before after =
-    (xs : List ℤ) (p : Claim) → Behind xs from → Holds before.sheet (xs ++ formula_words p.formula) → DraftReads (ClaimShown after.sheet xs) source (go p) r before after
+    (xs : List ℤ) (p : Claim) → Behind xs from → Holds before.sheet (xs ++ formula_words p.formula) → ReadAs (ClaimShown after.sheet xs) (run (go p) source.text.now before.at) r after.at
 
 -- a formula behind an arrow, whose words come behind all others
 abbrev pub ChainReads : Chain → (Claim → ReadClaim → Type 0) → Outcome Chain → Result ReadClaim Fault → ℕ → Type 0
@@ -53,7 +51,7 @@ ArrowNext source go c r before after =
 abbrev pub ExtendsChain : Source → (Claim → Reader Claim) → ReadClaim → Result (Unit {0}) Fault → ℕ → Draft → Draft → Type 0
 ExtendsChain source go c r from before after =
     (xs : List ℤ) (p : Claim) → Behind xs from → ClaimShown before.sheet xs p c →
-    DraftReads (λ q _. ClaimShown after.sheet xs q (record { arrow = false })) source (go p) r before after
+    ReadAs (λ q _. ClaimShown after.sheet xs q (record { arrow = false })) (run (go p) source.text.now before.at) r after.at
 
 -- the words of formulas with arrows behind them, the nearest first
 unfoldable pub chain_words : List Formula → List ℤ
