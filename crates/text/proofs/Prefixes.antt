@@ -5,15 +5,11 @@ use Rattle.grammar.specs.Meaning.{quantifier_word}
 use Rattle.grammar.specs.Reader.{Outcome, Refused, refusal_at}
 use Rattle.grammar.specs.Text.{Prefix}
 use Rattle.text.specs.declared.prefix.Prefix.{Prefix as Quantified}
-use Rattle.text.specs.Prefix.{PrefixRead, PrefixReads}
+use Rattle.text.specs.Prefix.{PrefixShown}
 
-pub prefix_refused : (n : ℕ) (o : Outcome Prefix) (r : Result Quantified Fault) (at : ℕ) (e : Fault) → o ≡ Refused (refusal_at e at) → IsErrAnd r (λ y. y ≡ e) → PrefixRead n o r at
-prefix_refused n o (Ok v) at e p q = absurd q
-prefix_refused n o (Err f) at e p q = p ∙ ap (λ g. Refused (refusal_at g at)) (sym q)
-
-pub prefixes_refused : (o : Outcome Prefix) (r : Result Quantified Fault) (at : ℕ) (e : Fault) → o ≡ Refused (refusal_at e at) → IsErrAnd r (λ y. y ≡ e) → PrefixReads o r at
-prefixes_refused o (Ok v) at e p q = absurd q
-prefixes_refused o (Err f) at e p q = p ∙ ap (λ g. Refused (refusal_at g at)) (sym q)
+pub prefix_refused : (counted : ℕ → Type 0) (o : Outcome Prefix) (r : Result Quantified Fault) (at : ℕ) (e : Fault) → o ≡ Refused (refusal_at e at) → IsErrAnd r (λ y. y ≡ e) → PrefixShown counted o r at
+prefix_refused counted o (Ok v) at e p q = absurd q
+prefix_refused counted o (Err f) at e p q = p ∙ ap (λ g. Refused (refusal_at g at)) (sym q)
 
 map-behind : (qs : List Bool) (q : Bool) → map quantifier_word (qs ++ (q ∷ [])) ≡ map quantifier_word qs ++ (quantifier_word q ∷ [])
 map-behind [] q = refl

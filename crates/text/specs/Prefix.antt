@@ -19,11 +19,14 @@ prefix_of p = record { names = map name_of (take p.count p.quantifiers); quantif
 abbrev pub Longer : Quantified → Quantifier → Quantified → Type 0
 Longer p q r = prefix_of r ≡ record { names = q.name ∷ (prefix_of p).names; quantifiers = q.every ∷ (prefix_of p).quantifiers }
 
+-- a prefix was read, with a number of quantifiers of which this holds
+abbrev pub PrefixShown : (ℕ → Type 0) → Outcome Prefix → Result Quantified Fault → ℕ → Type 0
+PrefixShown counted o (Ok q) at = (o ≡ Read (prefix_of q) at) × counted q.count
+PrefixShown counted o (Err f) at = o ≡ Refused (refusal_at f at)
+
 -- a prefix of so many quantifiers was read
 abbrev pub PrefixRead : ℕ → Outcome Prefix → Result Quantified Fault → ℕ → Type 0
-PrefixRead n o (Ok q) at = (o ≡ Read (prefix_of q) at) × (q.count ≡ n)
-PrefixRead n o (Err f) at = o ≡ Refused (refusal_at f at)
+PrefixRead n = PrefixShown (λ k. k ≡ n)
 
 abbrev pub PrefixReads : Outcome Prefix → Result Quantified Fault → ℕ → Type 0
-PrefixReads o (Ok q) at = (o ≡ Read (prefix_of q) at) × (q.count ≤ 4)
-PrefixReads o (Err f) at = o ≡ Refused (refusal_at f at)
+PrefixReads = PrefixShown (λ k. k ≤ 4)

@@ -2,7 +2,7 @@
 use Rattle.std.proofs.Common.{ap, sym, refl, ◌∙◌, arith}
 use Rattle.grammar.specs.Text.{is_quantifier_letter, prefix_for, quantifiers}
 use Rattle.grammar.proofs.Runs.{while_goes, while_stops, while-ended, while-over}
-use Rattle.text.proofs.Prefixes.{prefixes_refused}
+use Rattle.text.proofs.Prefixes.{prefix_refused}
 use Rattle.text.proofs.prefix.quantifiers.Goals as goal
 
 pub loop-turn-init : goal.loop-turn-init
@@ -21,7 +21,7 @@ pub returns-in_err-prefix : goal.returns-in_err-prefix
 unfolding prefix_for
 returns-in_err-prefix c =
     let begins = ap is_quantifier_letter (sym c.front.ensures) ∙ sym c.if-not-begins_quantifier.ensures in
-    prefixes_refused _ c.from_residual.result _ _ (c.loop-turn.invariant.0 ∙ while_stops _ _ _ _ _ _ _ _ c.loop-turn-test.true begins c.in_err-prefix.ensures) c.from_residual.ensures.1
+    prefix_refused _ _ c.from_residual.result _ _ (c.loop-turn.invariant.0 ∙ while_stops _ _ _ _ _ _ _ _ c.loop-turn-test.true begins c.in_err-prefix.ensures) c.from_residual.ensures.1
 
 pub loop-turn-preserved : goal.loop-turn-preserved
 unfolding prefix_for
