@@ -21,15 +21,19 @@ pub fn is_word(word: Word, letters: &[u8; 8]) -> bool
     word.letters == *letters
 }
 
+const RESERVED: [[u8; 8]; 5] = [
+    *b"every\0\0\0",
+    *b"some\0\0\0\0",
+    *b"and\0\0\0\0\0",
+    *b"or\0\0\0\0\0\0",
+    *b"not\0\0\0\0\0",
+];
+
 // Whether a word is one of the language.
 pub fn is_reserved(word: Word) -> bool
     ensures { result ≡ is_reserved word }
 {
-    is_word(word, b"every\0\0\0")
-        || is_word(word, b"some\0\0\0\0")
-        || is_word(word, b"and\0\0\0\0\0")
-        || is_word(word, b"or\0\0\0\0\0\0")
-        || is_word(word, b"not\0\0\0\0\0")
+    RESERVED.contains(&word.letters)
 }
 
 fn is_exponent(c: u8) -> bool
