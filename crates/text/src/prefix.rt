@@ -13,11 +13,12 @@ use grammar::word::Word;
 
 #[derive(Clone, Copy)]
 pub struct Quantifier {
-    // not `some`
+    // and not `some`
     pub every: bool,
     pub name: Word,
 }
 
+// At most four quantifiers, in fixed memory.
 #[derive(Clone, Copy)]
 pub struct Prefix {
     // the innermost first, as many as are counted
@@ -39,7 +40,7 @@ impl Prefix {
         }
     }
 
-    // The names, as many as are counted.
+    // The names, each in its quantifier's place.
     pub(crate) fn names(&self) -> [Word; 4]
         ensures { result ≡ map name_of self.now.quantifiers }
     {
