@@ -20,16 +20,16 @@ abbrev pub Behind : List ℤ → ℕ → Type 0
 Behind words place = place ≡ min (length words) 1025
 
 -- the words of the kinds, as term_words and formula_words have them
-abbrev pub word_of : Kind → ℤ
-word_of BelowZero = pos 1
-word_of EqualsZero = pos 2
-word_of Not = pos 3
-word_of And = pos 4
-word_of Or = pos 5
-word_of Variable = pos 6
-word_of Number = pos 7
-word_of Sum = pos 8
-word_of Product = pos 9
+abbrev pub kind_word : Kind → ℤ
+kind_word BelowZero = pos 1
+kind_word EqualsZero = pos 2
+kind_word Not = pos 3
+kind_word And = pos 4
+kind_word Or = pos 5
+kind_word Variable = pos 6
+kind_word Number = pos 7
+kind_word Sum = pos 8
+kind_word Product = pos 9
 
 abbrev pub Puts : ℤ → Sheet → Sheet → Type 0
 Puts w before after = (xs : List ℤ) → Holds before xs → Holds after (xs ++ (w ∷ []))

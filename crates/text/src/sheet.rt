@@ -1,6 +1,6 @@
 // Words as they are written, as many as a sentence may have; of more it is only known that they are too many.
 ghost use Rattle.std.specs.Prelude.{◌≡◌, ◌+◌, ◌≤◌, min};
-ghost use Rattle.text.specs.Sheet.{Puts, Inserts, Negates, Repeats, Copies, Multiplies, Raises, Exchanges, Compares, Subtracts, SubtractsFrom, Implies, Equates, Joins, word_of};
+ghost use Rattle.text.specs.Sheet.{Puts, Inserts, Negates, Repeats, Copies, Multiplies, Raises, Exchanges, Compares, Subtracts, SubtractsFrom, Implies, Equates, Joins, kind_word};
 
 use crate::row::Row;
 use grammar::relation::Relation;
@@ -17,8 +17,8 @@ fn three_on(place: usize) -> usize
 }
 
 // The word that says this kind.
-fn word_of(kind: Kind) -> i64
-    ensures { result ≡ word_of kind }
+fn kind_word(kind: Kind) -> i64
+    ensures { result ≡ kind_word kind }
 {
     match kind {
         Kind::BelowZero => 1,
@@ -65,16 +65,16 @@ impl Sheet {
 
     // A kind at the end.
     pub fn put_kind(&mut self, kind: Kind)
-        ensures { Puts (word_of kind) self.old self.new }
+        ensures { Puts (kind_word kind) self.old self.new }
     {
-        self.put(word_of(kind));
+        self.put(kind_word(kind));
     }
 
     // A kind in front of the words that begin at `from`.
     pub fn insert_kind(&mut self, from: usize, kind: Kind)
-        ensures { Inserts from (word_of kind) self.old self.new }
+        ensures { Inserts from (kind_word kind) self.old self.new }
     {
-        self.insert(from, word_of(kind));
+        self.insert(from, kind_word(kind));
     }
 
     // Minus one times the term that begins at `from`.
