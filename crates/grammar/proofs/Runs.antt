@@ -1,5 +1,5 @@
 -- One reader after another on a text, and a loop, a turn at a time.
-use Rattle.std.proofs.Common.{◌≡◌, ℕ, zero, suc, ◌+◌, ◌-◌, ◌<◌, ◌≤◌, Bool, true, false, cond, List, get_or, sym, refl, ap, ◌∙◌, arith}
+use Rattle.std.proofs.Common.{◌≡◌, ℕ, zero, suc, ◌+◌, ◌-◌, ◌<◌, ◌≤◌, Bool, true, false, cond, List, get_or, refl, ap, ◌∙◌, arith}
 use Rattle.grammar.specs.declared.refusal.Refusal.{Refusal}
 use Rattle.grammar.specs.Reader.{Reader, Give, Look, Pass, Refuse, Outcome, Refused, Read, ◌>>=◌, while, next, run}
 
@@ -22,10 +22,6 @@ goes_on r go text i a j e = run_bind r go text i ∙ ap (onward text go) e
 
 pub stops : {A B : Type 0} (r : Reader A) (go : A → Reader B) (text : List ℕ) (i : ℕ) (f : Refusal) → run r text i ≡ Refused f → run (r >>= go) text i ≡ Refused f
 stops r go text i f e = run_bind r go text i ∙ ap (onward text go) e
-
-pub run_look : {A : Type 0} (on : ℕ → Reader A) (text : List ℕ) (i c : ℕ) → c ≡ get_or text i 0 → run (Look on) text i ≡ run (on c) text i
-unfolding run
-run_look on text i c e = ap (λ d. run (on d) text i) (sym e)
 
 module _ {S : Type 0} (test : S → ℕ → Bool) (turn : S → Reader S) where
   -- a loop that has had i of n turns goes on, ends at a character, or has had its turns

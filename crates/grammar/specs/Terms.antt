@@ -45,11 +45,15 @@ primary_of names deeper c =
     (cond (is_digit c) (number >>= (λ n. Give (Num (pos n))))
     (grouped deeper))
 
--- `^` with a digit from 1 to 8, at most once
+-- a digit from 1 to 8
+abbrev pub is_exponent : ℕ → Bool
+is_exponent c = nat_le 49 c && nat_le c 56
+
+-- `^` with such a digit, at most once
 unfoldable pub raised : Term → Reader Term
 raised t =
     Look (λ c. cond (c == 94)
-    (sign (codes "^") >> Look (λ d. cond (nat_le 49 d && nat_le d 56) (Pass (blanks >> Give (power t (d - 48)))) (Refuse Unfit)))
+    (sign (codes "^") >> Look (λ d. cond (is_exponent d) (Pass (blanks >> Give (power t (d - 48)))) (Refuse Unfit)))
     (Give t))
 
 unfoldable pub factor : List Word → Nest → Reader Term
@@ -88,8 +92,12 @@ summand_of names deeper may_arrow s c = cond (c == 43) (added names deeper s) (P
 unfoldable pub plus_next : List Word → Nest → Bool → Summed → Reader Summed
 plus_next names deeper may_arrow s = Look (summand_of names deeper may_arrow s.term)
 
+-- a plus or a minus
+abbrev pub is_summand_sign : ℕ → Bool
+is_summand_sign c = c == 43 || c == 45
+
 abbrev pub begins_summand : Summed → ℕ → Bool
-begins_summand s c = not s.arrow && (c == 43 || c == 45)
+begins_summand s c = not s.arrow && is_summand_sign c
 
 -- the summands behind a first one, at most n
 unfoldable pub plus_for : ℕ → List Word → Nest → Bool → Summed → Reader Summed

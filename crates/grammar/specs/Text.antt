@@ -29,8 +29,12 @@ unfoldable pub prefix_next : Prefix → Reader Prefix
 prefix_next p =
     Look quantifier_of >>= (λ q. new_name p.names >>= (λ w. Give (record { names = w ∷ p.names; quantifiers = q ∷ p.quantifiers })))
 
+-- the first letter of `every` or `some`
+abbrev pub is_quantifier_letter : ℕ → Bool
+is_quantifier_letter c = c == 101 || c == 115
+
 abbrev pub begins_quantifier : Prefix → ℕ → Bool
-begins_quantifier p c = c == 101 || c == 115
+begins_quantifier p c = is_quantifier_letter c
 
 unfoldable pub prefix_for : ℕ → Prefix → Reader Prefix
 prefix_for n = while n begins_quantifier prefix_next

@@ -1,4 +1,4 @@
-// A word of small letters.
+// A word of small letters, at most eight, in fixed memory.
 #[derive(Clone, Copy, PartialEq, Eq, Debug)]
 pub struct Word {
     // zeros stand behind its last letter

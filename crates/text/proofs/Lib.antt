@@ -6,3 +6,4 @@ pub mod Powers
 pub mod Steps
 pub mod Chains
 pub mod Prefixes
+pub mod Rows

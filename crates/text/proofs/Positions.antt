@@ -1,29 +1,28 @@
--- Where a name stands in a list, one by one.
-use Rattle.std.proofs.Common.{◌≡◌, ℕ, suc, ◌+◌, ◌<◌, true, false, cond, List, length, get_or, drop, Some, None, Option, sym, refl, ap, ◌∙◌, add-one, arith, drop-cons}
+-- Where a name stands in a list.
+use Rattle.std.proofs.Common.{◌≡◌, ℕ, suc, ◌+◌, Bool, true, false, cond, not, ltb, List, [], ◌∷◌, length, Some, None, Option, refl, ap, ◌∙◌, arith}
+use Rattle.std.specs.List.{position_or_len}
 use Rattle.std.specs.Str.{bytes_eq}
 use Rattle.grammar.specs.declared.word.Word.{Word}
 use Rattle.grammar.specs.Tokens.{position}
-use Rattle.text.specs.Outcome.{later_by}
 
-pub found_here : (names : List Word) (w d : Word) (i : ℕ) → i < length names → bytes_eq (get_or names i d).letters w.letters ≡ true → later_by i (position (drop i names) w) ≡ Some i
+ltb-suc : (a b : ℕ) → ltb (1 + a) (suc b) ≡ ltb a b
+ltb-suc a b = grind arith
+
+ltb-zero-suc : (b : ℕ) → ltb 0 (suc b) ≡ true
+ltb-zero-suc b = grind arith
+
+pub first_place : (names : List Word) (w : Word) → cond (ltb (position_or_len (λ (v : Word). bytes_eq v.letters w.letters) names) (length names)) (Some (position_or_len (λ (v : Word). bytes_eq v.letters w.letters) names)) None ≡ position names w
 unfolding position
-found_here names w d i h e =
-    ap (λ (l : List Word). later_by i (position l w)) (drop-cons names i d h) ∙
-    ap (λ b. later_by i (cond b (Some 0) (elim (position (drop (suc i) names) w) [ None ↦ None | Some j ↦ Some (suc j) ]))) e ∙
-    ap {B = Option ℕ} (λ n. Some n) (omega arith)
+first_place [] w = refl
+first_place (v ∷ names) w = go (bytes_eq v.letters w.letters) (first_place names w)
+  where
+    place : ℕ
+    place = position_or_len (λ (u : Word). bytes_eq u.letters w.letters) names
 
-later_suc : (i : ℕ) (o : Option ℕ) → later_by i (elim o [ None ↦ None | Some j ↦ Some (suc j) ]) ≡ later_by (i + 1) o
-later_suc i None = refl
-later_suc i (Some j) = ap {B = Option ℕ} (λ n. Some n) (omega arith)
+    later : (b : Bool) → cond b (Some (1 + place)) None ≡ elim (cond b (Some place) None) [ None ↦ None | Some i ↦ Some (suc i) ]
+    later true = ap {B = Option ℕ} (λ n. Some n) (omega arith)
+    later false = refl
 
-pub found_later : (names : List Word) (w d : Word) (i : ℕ) → i < length names → bytes_eq (get_or names i d).letters w.letters ≡ false →
-    later_by i (position (drop i names) w) ≡ later_by (i + 1) (position (drop (i + 1) names) w)
-unfolding position
-found_later names w d i h e =
-    ap (λ (l : List Word). later_by i (position l w)) (drop-cons names i d h) ∙
-    ap (λ b. later_by i (cond b (Some 0) (elim (position (drop (suc i) names) w) [ None ↦ None | Some j ↦ Some (suc j) ]))) e ∙
-    later_suc i (position (drop (suc i) names) w) ∙ ap (λ n. later_by (i + 1) (position (drop n names) w)) (sym (add-one i))
-
-pub from_first : (o : Option ℕ) → o ≡ later_by 0 o
-from_first None = refl
-from_first (Some j) = ap {B = Option ℕ} (λ n. Some n) (omega arith)
+    go : (here : Bool) → cond (ltb place (length names)) (Some place) None ≡ position names w → cond (ltb (cond (not here) (1 + place) 0) (suc (length names))) (Some (cond (not here) (1 + place) 0)) None ≡ cond here (Some 0) (elim (position names w) [ None ↦ None | Some i ↦ Some (suc i) ])
+    go true e = ap (λ b. cond b (Some 0) None) (ltb-zero-suc (length names))
+    go false e = ap (λ b. cond b (Some (1 + place)) None) (ltb-suc place (length names)) ∙ later (ltb place (length names)) ∙ ap (λ (o : Option ℕ). elim o [ None ↦ None | Some i ↦ Some (suc i) ]) e

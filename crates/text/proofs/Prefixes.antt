@@ -1,29 +1,15 @@
--- A list of four with one more in front, and one less behind.
-use Rattle.std.proofs.Common.{◌≡◌, ℕ, zero, suc, ◌+◌, ◌<◌, ◌≤◌, Bool, false, List, [], ◌∷◌, ◌++◌, map, length, get_or, take, ℤ, IsErrAnd, Ok, Err, Result, sym, refl, ap, ◌∙◌, add-one, arith, take-suc}
+-- Prefixes that are refused, and the words of their quantifiers.
+use Rattle.std.proofs.Common.{◌≡◌, ℕ, ◌+◌, ◌<◌, Bool, false, List, [], ◌∷◌, ◌++◌, map, length, get_or, take, ℤ, IsErrAnd, Ok, Err, Result, sym, refl, ap, ◌∙◌, add-one, take-suc}
 use Rattle.grammar.specs.declared.fault.Fault.{Fault}
 use Rattle.grammar.specs.Meaning.{quantifier_word}
 use Rattle.grammar.specs.Reader.{Outcome, Refused, refusal_at}
 use Rattle.grammar.specs.Text.{Prefix}
 use Rattle.text.specs.declared.prefix.Prefix.{Prefix as Quantified}
-use Rattle.text.specs.Prefix.{PrefixRead, PrefixReads}
+use Rattle.text.specs.Prefix.{PrefixShown}
 
-pub three_of_four : {A : Type 0} (xs : List A) (d : A) (k : ℕ) → length xs ≡ 4 → k ≤ 3 → take k (get_or xs 0 d ∷ get_or xs 1 d ∷ get_or xs 2 d ∷ []) ≡ take k xs
-three_of_four [] d k e h = absurd (omega arith)
-three_of_four (a ∷ []) d k e h = absurd (omega arith)
-three_of_four (a ∷ b ∷ []) d k e h = absurd (omega arith)
-three_of_four (a ∷ b ∷ c ∷ xs) d zero e h = refl
-three_of_four (a ∷ b ∷ c ∷ xs) d (suc zero) e h = refl
-three_of_four (a ∷ b ∷ c ∷ xs) d (suc (suc zero)) e h = refl
-three_of_four (a ∷ b ∷ c ∷ xs) d (suc (suc (suc zero))) e h = refl
-three_of_four (a ∷ b ∷ c ∷ xs) d (suc (suc (suc (suc k)))) e h = absurd (omega arith)
-
-pub prefix_refused : (n : ℕ) (o : Outcome Prefix) (r : Result Quantified Fault) (at : ℕ) (e : Fault) → o ≡ Refused (refusal_at e at) → IsErrAnd r (λ y. y ≡ e) → PrefixRead n o r at
-prefix_refused n o (Ok v) at e p q = absurd q
-prefix_refused n o (Err f) at e p q = p ∙ ap (λ g. Refused (refusal_at g at)) (sym q)
-
-pub prefixes_refused : (o : Outcome Prefix) (r : Result Quantified Fault) (at : ℕ) (e : Fault) → o ≡ Refused (refusal_at e at) → IsErrAnd r (λ y. y ≡ e) → PrefixReads o r at
-prefixes_refused o (Ok v) at e p q = absurd q
-prefixes_refused o (Err f) at e p q = p ∙ ap (λ g. Refused (refusal_at g at)) (sym q)
+pub prefix_refused : (counted : ℕ → Type 0) (o : Outcome Prefix) (r : Result Quantified Fault) (at : ℕ) (e : Fault) → o ≡ Refused (refusal_at e at) → IsErrAnd r (λ y. y ≡ e) → PrefixShown counted o r at
+prefix_refused counted o (Ok v) at e p q = absurd q
+prefix_refused counted o (Err f) at e p q = p ∙ ap (λ g. Refused (refusal_at g at)) (sym q)
 
 map-behind : (qs : List Bool) (q : Bool) → map quantifier_word (qs ++ (q ∷ [])) ≡ map quantifier_word qs ++ (quantifier_word q ∷ [])
 map-behind [] q = refl

@@ -1,18 +1,17 @@
 -- Steps of a reader on a text: what was looked at, what was chosen, what was read.
-use Rattle.std.proofs.Common.{◌≡◌, ℕ, zero, suc, ◌-◌, Bool, true, false, cond, List, ◌++◌, ℤ, IsErrAnd, Ok, Err, Result, sym, refl, ap, ◌∙◌, append_assoc, arith}
+use Rattle.std.proofs.Common.{◌≡◌, ℕ, suc, ◌-◌, Bool, true, false, cond, List, ◌++◌, ℤ, IsErrAnd, Some, None, Ok, Err, Option, Result, sym, refl, ap, ◌∙◌, append_assoc, arith}
+use Rattle.std.specs.Option.{ok_or}
+use Rattle.field.specs.Sentence.{Term}
 use Rattle.grammar.specs.declared.fault.Fault.{Fault}
-use Rattle.grammar.specs.declared.fault.Fault.TheVariants.{Unfit, Deep}
-use Rattle.grammar.specs.declared.word.Word.{Word}
-use Rattle.grammar.specs.Formulas.{claimed, atom, equivalence}
-use Rattle.grammar.specs.Nesting.{nest}
-use Rattle.grammar.specs.Reader.{Reader, Give, Refuse, Outcome, Refused, Read, refusal_at, ◌>>=◌, run}
-use Rattle.grammar.specs.Terms.{Claim, Piece, OfTerm, OfClaim, product, sum}
+use Rattle.grammar.specs.declared.fault.Fault.TheVariants.{Unfit}
+use Rattle.grammar.specs.Formulas.{claimed}
+use Rattle.grammar.specs.Meaning.{term_words}
+use Rattle.grammar.specs.Reader.{Reader, Give, Outcome, Refused, Read, refusal_at, ◌>>=◌, run}
+use Rattle.grammar.specs.Terms.{Claim, Piece, OfTerm, OfClaim}
 use Rattle.grammar.proofs.Runs.{goes_on, stops}
-use Rattle.text.specs.declared.piece.Piece.{Piece as Kind}
-use Rattle.text.specs.declared.piece.Piece.TheVariants.{Term as IsTerm, Claim as IsClaim}
+use Rattle.text.specs.declared.claim.Claim.{Claim as ReadClaim}
 use Rattle.text.specs.declared.sheet.Sheet.{Sheet}
 use Rattle.text.specs.Claims.{ClaimShown, PieceShown}
-use Rattle.text.specs.Piece.{claim_of}
 use Rattle.text.specs.Outcome.{outcome_of}
 use Rattle.text.specs.Reads.{ReadAs}
 use Rattle.text.specs.Sheet.{Holds}
@@ -22,12 +21,6 @@ use Rattle.text.proofs.Sheets.{same_words}
 pub read_by : {A V : Type 0} (shows : A → V → Type 0) (o o' : Outcome A) (r : Result V Fault) (at : ℕ) → o ≡ o' → ReadAs shows o' r at → ReadAs shows o r at
 read_by shows o o' (Ok v) at e h = (h.0, e ∙ h.1, h.2)
 read_by shows o o' (Err f) at e h = e ∙ h
-
--- what is shown may be shown otherwise
-pub shown_as : {A V : Type 0} (shows shows' : A → V → Type 0) (o : Outcome A) (r : Result V Fault) (at : ℕ) → ((a : A) (v : V) → shows a v → shows' a v) →
-    ReadAs shows o r at → ReadAs shows' o r at
-shown_as shows shows' o (Ok v) at g h = (h.0, h.1, g h.0 v h.2)
-shown_as shows shows' o (Err f) at g h = h
 
 pub refused_by : {A V : Type 0} (shows : A → V → Type 0) (o : Outcome A) (r : Result V Fault) (at : ℕ) (e : Fault) → o ≡ Refused (refusal_at e at) → IsErrAnd r (λ y. y ≡ e) → ReadAs shows o r at
 refused_by shows o (Ok v) at e p q = absurd q
@@ -46,26 +39,9 @@ unfolding run
 closes shows r a text i (Ok v) at e s = (a, goes_on r (λ _. Give a) text i v at e, s v)
 closes shows r a text i (Err f) at e s = stops r (λ _. Give a) text i (refusal_at f at) e
 
--- the readers one level deeper
-pub no_deeper_sum : (names : List Word) (d : ℕ) → d ≡ 0 → (nest names d).sum ≡ Refuse Deep
-unfolding nest
-no_deeper_sum names zero e = refl
-no_deeper_sum names (suc d) e = absurd (omega arith)
-
-pub deeper_sum : (names : List Word) (d : ℕ) → (d ≡ 0 → ⊥) → (nest names d).sum ≡ (sum names (nest names (d - 1)) false >>= (λ s. Give s.term))
-unfolding nest
-deeper_sum names zero n = absurd (n refl)
-deeper_sum names (suc d) n = let e : suc d - 1 ≡ d = omega arith in ap (λ k. sum names (nest names k) false >>= (λ s. Give s.term)) (sym e)
-
-pub no_deeper_product : (names : List Word) (d : ℕ) → d ≡ 0 → (nest names d).product ≡ Refuse Deep
-unfolding nest
-no_deeper_product names zero e = refl
-no_deeper_product names (suc d) e = absurd (omega arith)
-
-pub deeper_product : (names : List Word) (d : ℕ) → (d ≡ 0 → ⊥) → (nest names d).product ≡ product names (nest names (d - 1))
-unfolding nest
-deeper_product names zero n = absurd (n refl)
-deeper_product names (suc d) n = let e : suc d - 1 ≡ d = omega arith in ap (λ k. product names (nest names k)) (sym e)
+-- where a level deeper may be opened
+pub one_deeper : {depth : ℕ} → (depth ≡ 0 → ⊥) → depth ≡ suc (depth - 1)
+one_deeper n = omega (arith, n)
 
 pub regrouped : (s : Sheet) (xs ys zs : List ℤ) → Holds s ((xs ++ ys) ++ zs) → Holds s (xs ++ (ys ++ zs))
 regrouped s xs ys zs held = same_words s ((xs ++ ys) ++ zs) (xs ++ (ys ++ zs)) (append_assoc xs ys zs) held
@@ -73,39 +49,25 @@ regrouped s xs ys zs held = same_words s ((xs ++ ys) ++ zs) (xs ++ (ys ++ zs)) (
 pub ungrouped : (s : Sheet) (xs ys zs : List ℤ) → Holds s (xs ++ (ys ++ zs)) → Holds s ((xs ++ ys) ++ zs)
 ungrouped s xs ys zs held = same_words s (xs ++ (ys ++ zs)) ((xs ++ ys) ++ zs) (sym (append_assoc xs ys zs)) held
 
-pub no_deeper_atom : (names : List Word) (d : ℕ) → d ≡ 0 → (nest names d).atom ≡ Refuse Deep
-unfolding nest
-no_deeper_atom names zero e = refl
-no_deeper_atom names (suc d) e = absurd (omega arith)
-
-pub deeper_atom : (names : List Word) (d : ℕ) → (d ≡ 0 → ⊥) → (nest names d).atom ≡ atom names (nest names (d - 1))
-unfolding nest
-deeper_atom names zero n = absurd (n refl)
-deeper_atom names (suc d) n = let e : suc d - 1 ≡ d = omega arith in ap (λ k. atom names (nest names k)) (sym e)
-
-pub no_deeper_formula : (names : List Word) (d : ℕ) → d ≡ 0 → (nest names d).formula ≡ Refuse Deep
-unfolding nest
-no_deeper_formula names zero e = refl
-no_deeper_formula names (suc d) e = absurd (omega arith)
-
-pub deeper_formula : (names : List Word) (d : ℕ) → (d ≡ 0 → ⊥) → (nest names d).formula ≡ equivalence names (nest names (d - 1))
-unfolding nest
-deeper_formula names zero n = absurd (n refl)
-deeper_formula names (suc d) n = let e : suc d - 1 ≡ d = omega arith in ap (λ k. equivalence names (nest names k)) (sym e)
-
--- where a formula must stand
-pub claims : (after : Sheet) (xs : List ℤ) (a : Piece) (k : Kind) (b : Bool) (text : List ℕ) (i : ℕ) → PieceShown after xs a k → claim_of k ≡ Ok b →
-    (p : Claim) × (run (claimed a) text i ≡ Read p i) × ClaimShown after xs p b
+-- where a formula must stand, and where a term may stand too
+pub claims : (after : Sheet) (xs : List ℤ) (a : Piece) (o : Option ReadClaim) (c : ReadClaim) (text : List ℕ) (i : ℕ) → PieceShown after xs a o → o ≡ Some c →
+    (p : Claim) × (a ≡ OfClaim p) × (run (claimed a) text i ≡ Read p i) × ClaimShown after xs p c
 unfolding claimed run
-claims after xs (OfTerm t) IsTerm b text i h e = let z : ◌≡◌ {A = ℕ} 0 1 = cc in absurd (omega arith)
-claims after xs (OfTerm t) (IsClaim c) b text i h e = absurd h
-claims after xs (OfClaim p) IsTerm b text i h e = absurd h
-claims after xs (OfClaim p) (IsClaim c) b text i h e = let same : c ≡ b = cc in (p, refl, (h.0 ∙ same, h.1))
+claims after xs (OfTerm t) None c text i h e = let z : ◌≡◌ {A = ℕ} 0 1 = cc in absurd (omega arith)
+claims after xs (OfTerm t) (Some d) c text i h e = absurd h
+claims after xs (OfClaim p) None c text i h e = absurd h
+claims after xs (OfClaim p) (Some d) c text i h e = let same : d.arrow ≡ c.arrow = cc in (p, refl, refl, (h.0 ∙ same, h.1))
 
-pub no_claim : (after : Sheet) (xs : List ℤ) (a : Piece) (k : Kind) (f : Fault) (text : List ℕ) (i : ℕ) → PieceShown after xs a k → claim_of k ≡ Err f →
+pub term_stands : (after : Sheet) (xs : List ℤ) (a : Piece) (o : Option ReadClaim) → PieceShown after xs a o → o ≡ None → (t : Term) × (a ≡ OfTerm t) × Holds after (xs ++ term_words t)
+term_stands after xs (OfTerm t) None h e = (t, refl, h)
+term_stands after xs (OfTerm t) (Some c) h e = absurd h
+term_stands after xs (OfClaim p) None h e = absurd h
+term_stands after xs (OfClaim p) (Some c) h e = let z : ◌≡◌ {A = ℕ} 0 1 = cc in absurd (omega arith)
+
+pub no_claim : (after : Sheet) (xs : List ℤ) (a : Piece) (o : Option ReadClaim) (f : Fault) (text : List ℕ) (i : ℕ) → PieceShown after xs a o → Err f ≡ ok_or o Unfit →
     run (claimed a) text i ≡ Refused (refusal_at f i)
 unfolding claimed run
-no_claim after xs (OfTerm t) IsTerm f text i h e = let same : Unfit ≡ f = cc in ap (λ g. Refused (refusal_at g i)) same
-no_claim after xs (OfTerm t) (IsClaim c) f text i h e = absurd h
-no_claim after xs (OfClaim p) IsTerm f text i h e = absurd h
-no_claim after xs (OfClaim p) (IsClaim c) f text i h e = let z : ◌≡◌ {A = ℕ} 0 1 = cc in absurd (omega arith)
+no_claim after xs (OfTerm t) None f text i h e = let same : Unfit ≡ f = cc in ap (λ g. Refused (refusal_at g i)) same
+no_claim after xs (OfTerm t) (Some c) f text i h e = absurd h
+no_claim after xs (OfClaim p) None f text i h e = absurd h
+no_claim after xs (OfClaim p) (Some c) f text i h e = let z : ◌≡◌ {A = ℕ} 0 1 = cc in absurd (omega arith)

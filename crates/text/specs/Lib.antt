@@ -2,7 +2,7 @@
 pub mod Outcome
 pub mod Sheet
 pub mod Reads
-pub mod Piece
+pub mod Row
 pub mod Claims
 pub mod Prefix
 pub mod Sentence

@@ -1,22 +1,32 @@
 -- What a prefix of quantifiers stands for. Assumes nothing.
-use Rattle.std.specs.Prelude.{◌≡◌, ℕ, ◌≤◌, Bool, ◌∷◌, take, Ok, Err, Result}
+use Rattle.std.specs.Prelude.{◌≡◌, ℕ, ◌≤◌, Bool, ◌∷◌, map, take, Ok, Err, Result}
 use Rattle.grammar.specs.declared.fault.Fault.{Fault}
 use Rattle.grammar.specs.declared.word.Word.{Word}
 use Rattle.grammar.specs.Reader.{Outcome, Refused, Read, refusal_at}
 use Rattle.grammar.specs.Text.{Prefix}
 use Rattle.text.specs.declared.prefix.Prefix.{Prefix as Quantified}
+use Rattle.text.specs.declared.prefix.Quantifier.{Quantifier}
+
+abbrev pub name_of : Quantifier → Word
+name_of q = q.name
+
+abbrev pub every_of : Quantifier → Bool
+every_of q = q.every
 
 abbrev pub prefix_of : Quantified → Prefix
-prefix_of p = record { names = take p.count p.names; quantifiers = take p.count p.every }
+prefix_of p = record { names = map name_of (take p.count p.quantifiers); quantifiers = map every_of (take p.count p.quantifiers) }
 
-abbrev pub Longer : Quantified → Bool → Word → Quantified → Type 0
-Longer p every name q = prefix_of q ≡ record { names = name ∷ (prefix_of p).names; quantifiers = every ∷ (prefix_of p).quantifiers }
+abbrev pub Longer : Quantified → Quantifier → Quantified → Type 0
+Longer p q r = prefix_of r ≡ record { names = q.name ∷ (prefix_of p).names; quantifiers = q.every ∷ (prefix_of p).quantifiers }
+
+-- a prefix was read, with a number of quantifiers of which this holds
+abbrev pub PrefixShown : (ℕ → Type 0) → Outcome Prefix → Result Quantified Fault → ℕ → Type 0
+PrefixShown counted o (Ok q) at = (o ≡ Read (prefix_of q) at) × counted q.count
+PrefixShown counted o (Err f) at = o ≡ Refused (refusal_at f at)
 
 -- a prefix of so many quantifiers was read
 abbrev pub PrefixRead : ℕ → Outcome Prefix → Result Quantified Fault → ℕ → Type 0
-PrefixRead n o (Ok q) at = (o ≡ Read (prefix_of q) at) × (q.count ≡ n)
-PrefixRead n o (Err f) at = o ≡ Refused (refusal_at f at)
+PrefixRead n = PrefixShown (λ k. k ≡ n)
 
 abbrev pub PrefixReads : Outcome Prefix → Result Quantified Fault → ℕ → Type 0
-PrefixReads o (Ok q) at = (o ≡ Read (prefix_of q) at) × (q.count ≤ 4)
-PrefixReads o (Err f) at = o ≡ Refused (refusal_at f at)
+PrefixReads = PrefixShown (λ k. k ≤ 4)

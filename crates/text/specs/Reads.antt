@@ -3,29 +3,44 @@ use Rattle.std.specs.Prelude.{◌≡◌, ℕ, Bool, List, ◌++◌, ℤ, Ok, Err
 use Rattle.field.specs.Sentence.{Term}
 use Rattle.grammar.specs.declared.fault.Fault.{Fault}
 use Rattle.grammar.specs.Meaning.{term_words}
-use Rattle.grammar.specs.Reader.{Outcome, Refused, Read, refusal_at}
+use Rattle.grammar.specs.Reader.{Reader, Outcome, Refused, Read, refusal_at, run}
 use Rattle.grammar.specs.Terms.{Summed}
+use Rattle.text.specs.declared.draft.Draft.{Draft}
 use Rattle.text.specs.declared.sheet.Sheet.{Sheet}
+use Rattle.text.specs.declared.source.Source.{Source}
 use Rattle.text.specs.Sheet.{Holds, Behind}
 
 abbrev pub ReadAs : {A V : Type 0} → (A → V → Type 0) → Outcome A → Result V Fault → ℕ → Type 0
 ReadAs {A} shows o (Ok v) at = (a : A) × (o ≡ Read a at) × shows a v
 ReadAs shows o (Err f) at = o ≡ Refused (refusal_at f at)
 
--- a term's words come behind those that the sheet holds
-abbrev pub WritesTerm : Outcome Term → Result (Unit {0}) Fault → ℕ → Sheet → Sheet → Type 0
-WritesTerm o r at before after = (xs : List ℤ) → Holds before xs → ReadAs (λ t _. Holds after (xs ++ term_words t)) o r at
+-- a term's words behind others
+abbrev pub TermShown : Sheet → List ℤ → Term → Unit {0} → Type 0
+TermShown after xs t _ = Holds after (xs ++ term_words t)
 
--- the words of a longer term come in place of those of a term that begins at `from`
-abbrev pub ExtendsTerm : (Term → Outcome Term) → Result (Unit {0}) Fault → ℕ → ℕ → Sheet → Sheet → Type 0
-ExtendsTerm go r at from before after =
-    (xs : List ℤ) (t : Term) → Behind xs from → Holds before (xs ++ term_words t) → ReadAs (λ u _. Holds after (xs ++ term_words u)) (go t) r at
+-- the same of a sum, and whether an arrow has been read behind it
+abbrev pub SumShown : Sheet → List ℤ → Summed → Bool → Type 0
+SumShown after xs s arrow = (s.arrow ≡ arrow) × Holds after (xs ++ term_words s.term)
 
--- the same of a sum; the answer says whether an arrow has been read behind it
-abbrev pub WritesSum : Outcome Summed → Result Bool Fault → ℕ → Sheet → Sheet → Type 0
-WritesSum o r at before after = (xs : List ℤ) → Holds before xs → ReadAs (λ s b. (s.arrow ≡ b) × Holds after (xs ++ term_words s.term)) o r at
+-- what is read comes behind the words that the sheet holds
+abbrev pub Writes : {A V : Type 0} → (Sheet → List ℤ → A → V → Type 0) → Source → Reader A → Result V Fault → Draft → Draft → Type 0
+Writes shows source reader r before after =
+    (xs : List ℤ) → Holds before.sheet xs → ReadAs (shows after.sheet xs) (run reader source.text.now before.at) r after.at
 
-abbrev pub ExtendsSum : (Term → Outcome Summed) → Result Bool Fault → ℕ → ℕ → Sheet → Sheet → Type 0
-ExtendsSum go r at from before after =
-    (xs : List ℤ) (t : Term) → Behind xs from → Holds before (xs ++ term_words t) →
-    ReadAs (λ s b. (s.arrow ≡ b) × Holds after (xs ++ term_words s.term)) (go t) r at
+-- what is read comes in place of the words of a term that begins at `from`
+abbrev pub Extends : {A V : Type 0} → (Sheet → List ℤ → A → V → Type 0) → Source → (Term → Reader A) → Result V Fault → ℕ → Draft → Draft → Type 0
+Extends shows source go r from before after =
+    (xs : List ℤ) (t : Term) → Behind xs from → Holds before.sheet (xs ++ term_words t) →
+    ReadAs (shows after.sheet xs) (run (go t) source.text.now before.at) r after.at
+
+abbrev pub WritesTerm : Source → Reader Term → Result (Unit {0}) Fault → Draft → Draft → Type 0
+WritesTerm = Writes TermShown
+
+abbrev pub ExtendsTerm : Source → (Term → Reader Term) → Result (Unit {0}) Fault → ℕ → Draft → Draft → Type 0
+ExtendsTerm = Extends TermShown
+
+abbrev pub WritesSum : Source → Reader Summed → Result Bool Fault → Draft → Draft → Type 0
+WritesSum = Writes SumShown
+
+abbrev pub ExtendsSum : Source → (Term → Reader Summed) → Result Bool Fault → ℕ → Draft → Draft → Type 0
+ExtendsSum = Extends SumShown

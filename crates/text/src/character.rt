@@ -5,17 +5,17 @@ ghost use Rattle.grammar.specs.Characters.{is_blank, is_letter, is_digit};
 pub fn is_blank(c: u8) -> bool
     ensures { result ≡ is_blank c }
 {
-    c == b' ' || c == b'\n'
+    matches!(c, b' ' | b'\n')
 }
 
 pub fn is_letter(c: u8) -> bool
     ensures { result ≡ is_letter c }
 {
-    b'a' <= c && c <= b'z'
+    c.is_ascii_lowercase()
 }
 
 pub fn is_digit(c: u8) -> bool
     ensures { result ≡ is_digit c }
 {
-    b'0' <= c && c <= b'9'
+    c.is_ascii_digit()
 }

@@ -1,27 +1,28 @@
 // Formulas, a method for each level of binding; a term stands for itself until a sign of comparison makes it one.
-ghost use Rattle.std.specs.Prelude.{◌≡◌, codes, slice_index};
-ghost use Rattle.field.specs.Sentence.{And, Or};
-ghost use Rattle.grammar.specs.Formulas.{begins_relation, relation_of, or_equal, comparison_of, from_product, from_primary, denied, from_word, enclosed, atom_of, atom, row_next, row_for, conjunction, disjunction, arrow_behind, chain_next, chained, implication, equivalence};
-ghost use Rattle.grammar.specs.Meaning.{equivalent};
+ghost use Rattle.std.specs.Prelude.{◌≡◌, slice_index};
+ghost use Rattle.grammar.specs.Formulas.{begins_relation, relation_of, or_equal, comparison_of, from_product, from_primary, denied, from_word, enclosed, atom_of, row_next, row_for, disjunction, arrow_behind, chain_next, chained, implication};
 ghost use Rattle.grammar.specs.Nesting.{nest};
 ghost use Rattle.grammar.specs.Reader.{run};
-ghost use Rattle.grammar.specs.Tokens.{sign, keyword};
+ghost use Rattle.grammar.specs.Tokens.{longest};
 ghost use Rattle.text.specs.Claims.{WritesPiece, ExtendsPiece, ExtendsClaim, NextClaim, ArrowNext, ExtendsChain};
 ghost use Rattle.text.specs.Outcome.{outcome_of};
+ghost use Rattle.text.specs.Row.{first_of, between_of, join_of, operand_of, row_of};
 
 use crate::character::is_letter;
-use crate::piece::{Piece, claimed};
-use crate::sheet::Sheet;
+use crate::claim::Claim;
+use crate::draft::Draft;
+use crate::row::Row;
 use crate::source::{LONGEST, Source};
 use crate::term::is_word;
 use grammar::fault::Fault;
 use grammar::relation::Relation;
 use grammar::word::Word;
+use words::kind::Kind;
 
 pub fn begins_relation(c: u8) -> bool
     ensures { result ≡ begins_relation c }
 {
-    c == b'<' || c == b'>' || c == b'=' || c == b'!'
+    matches!(c, b'<' | b'>' | b'=' | b'!')
 }
 
 impl Source<'_> {
@@ -41,267 +42,220 @@ impl Source<'_> {
     fn relation(&self, at: &mut usize) -> Result<Relation, Fault>
         ensures { run (relation_of (slice_index self.now.text.now at.old)) self.now.text.now at.old ≡ outcome_of result at.new }
     {
-        let c = self.front(*at);
-        if c == b'<' {
-            self.pass(at);
-            return self.or_equal(at, Relation::Below, Relation::AtMost);
+        match self.front(*at) {
+            b'<' => {
+                self.pass(at);
+                self.or_equal(at, Relation::Below, Relation::AtMost)
+            }
+            b'>' => {
+                self.pass(at);
+                self.or_equal(at, Relation::Above, Relation::AtLeast)
+            }
+            b'=' => {
+                self.sign(at, b"=")?;
+                Ok(Relation::Equal)
+            }
+            _ => {
+                self.sign(at, b"!=")?;
+                Ok(Relation::Unequal)
+            }
         }
-        if c == b'>' {
-            self.pass(at);
-            return self.or_equal(at, Relation::Above, Relation::AtLeast);
-        }
-        if c == b'=' {
-            self.sign(at, b"=")?;
-            return Ok(Relation::Equal);
-        }
-        self.sign(at, b"!=")?;
-        Ok(Relation::Unequal)
     }
 
     // A term, or its comparison with another.
     fn comparison(
         &self,
-        at: &mut usize,
-        sheet: &mut Sheet,
+        draft: &mut Draft,
         depth: usize,
         from: usize,
-    ) -> Result<Piece, Fault>
-        ensures { ExtendsPiece (λ t. run (comparison_of self.now.names.now (nest self.now.names.now depth) t (slice_index self.now.text.now at.old)) self.now.text.now at.old) result at.new from sheet.old sheet.new }
+    ) -> Result<Option<Claim>, Fault>
+        ensures { ExtendsPiece self.now (λ t. comparison_of self.now.names.now (nest self.now.names.now depth) t (slice_index self.now.text.now draft.old.at)) result from draft.old draft.new }
     {
-        if !begins_relation(self.front(*at)) {
-            return Ok(Piece::Term);
+        if !begins_relation(self.front(draft.at)) {
+            return Ok(None);
         }
-        let relation = self.relation(at)?;
-        let middle = sheet.count;
-        let arrow = self.sum(at, sheet, depth, true)?;
-        sheet.compare(relation, from, middle);
-        Ok(Piece::Claim(arrow))
+        let relation = self.relation(&mut draft.at)?;
+        let middle = draft.sheet.count;
+        let arrow = self.sum(draft, depth, true)?;
+        draft.sheet.compare(relation, from, middle);
+        Ok(Some(Claim { arrow }))
     }
 
     // A term goes on as a sum, which may be compared.
     fn from_product(
         &self,
-        at: &mut usize,
-        sheet: &mut Sheet,
+        draft: &mut Draft,
         depth: usize,
         from: usize,
-    ) -> Result<Piece, Fault>
-        ensures { ExtendsPiece (λ t. run (from_product self.now.names.now (nest self.now.names.now depth) t) self.now.text.now at.old) result at.new from sheet.old sheet.new }
+    ) -> Result<Option<Claim>, Fault>
+        ensures { ExtendsPiece self.now (from_product self.now.names.now (nest self.now.names.now depth)) result from draft.old draft.new }
     {
-        self.plus(at, sheet, depth, false, from)?;
-        self.comparison(at, sheet, depth, from)
+        self.plus(draft, depth, false, from)?;
+        self.comparison(draft, depth, from)
     }
 
     fn from_primary(
         &self,
-        at: &mut usize,
-        sheet: &mut Sheet,
+        draft: &mut Draft,
         depth: usize,
         from: usize,
-    ) -> Result<Piece, Fault>
-        ensures { ExtendsPiece (λ t. run (from_primary self.now.names.now (nest self.now.names.now depth) t) self.now.text.now at.old) result at.new from sheet.old sheet.new }
+    ) -> Result<Option<Claim>, Fault>
+        ensures { ExtendsPiece self.now (from_primary self.now.names.now (nest self.now.names.now depth)) result from draft.old draft.new }
     {
-        self.raised(at, sheet, from)?;
-        self.times(at, sheet, depth, from)?;
-        self.from_product(at, sheet, depth, from)
+        self.raised(draft, from)?;
+        self.times(draft, depth, from)?;
+        self.from_product(draft, depth, from)
     }
 
     // What `not` denies.
     #[cycle(formula_levels)]
-    fn denied(&self, at: &mut usize, sheet: &mut Sheet, depth: usize) -> Result<Piece, Fault>
-        ensures { WritesPiece (run (denied (nest self.now.names.now depth)) self.now.text.now at.old) result at.new sheet.old sheet.new }
+    fn denied(&self, draft: &mut Draft, depth: usize) -> Result<Option<Claim>, Fault>
+        ensures { WritesPiece self.now (denied (nest self.now.names.now depth)) result draft.old draft.new }
     {
-        self.blanks(at);
+        self.blanks(&mut draft.at);
         if depth == 0 {
             return Err(Fault::Deep);
         }
-        let from = sheet.count;
-        let piece = self.atom(at, sheet, depth - 1)?;
-        let arrow = claimed(piece)?;
-        sheet.insert(from, 3);
-        Ok(Piece::Claim(arrow))
+        let from = draft.sheet.count;
+        let claim = self.atom(draft, depth - 1)?.ok_or(Fault::Unfit)?;
+        draft.sheet.insert_kind(from, Kind::Not);
+        Ok(Some(claim))
     }
 
     // `not` with what it denies, or a name.
     #[cycle(formula_levels)]
-    fn from_word(
-        &self,
-        at: &mut usize,
-        sheet: &mut Sheet,
-        depth: usize,
-        word: Word,
-    ) -> Result<Piece, Fault>
-        ensures { WritesPiece (run (from_word self.now.names.now (nest self.now.names.now depth) word) self.now.text.now at.old) result at.new sheet.old sheet.new }
+    fn from_word(&self, draft: &mut Draft, depth: usize, word: Word) -> Result<Option<Claim>, Fault>
+        ensures { WritesPiece self.now (from_word self.now.names.now (nest self.now.names.now depth) word) result draft.old draft.new }
     {
         if is_word(word, b"not\0\0\0\0\0") {
-            return self.denied(at, sheet, depth);
+            return self.denied(draft, depth);
         }
-        let from = sheet.count;
-        self.named(at, sheet, word)?;
-        self.from_primary(at, sheet, depth, from)
+        let from = draft.sheet.count;
+        self.named(draft, word)?;
+        self.from_primary(draft, depth, from)
     }
 
     // A formula in parentheses, or a term that begins with one.
     #[cycle(formula_levels)]
-    fn enclosed(&self, at: &mut usize, sheet: &mut Sheet, depth: usize) -> Result<Piece, Fault>
-        ensures { WritesPiece (run (enclosed self.now.names.now (nest self.now.names.now depth)) self.now.text.now at.old) result at.new sheet.old sheet.new }
+    fn enclosed(&self, draft: &mut Draft, depth: usize) -> Result<Option<Claim>, Fault>
+        ensures { WritesPiece self.now (enclosed self.now.names.now (nest self.now.names.now depth)) result draft.old draft.new }
     {
-        let from = sheet.count;
-        self.sign(at, b"(")?;
+        let from = draft.sheet.count;
+        self.sign(&mut draft.at, b"(")?;
         if depth == 0 {
             return Err(Fault::Deep);
         }
-        let piece = self.equivalence(at, sheet, depth - 1)?;
-        self.sign(at, b")")?;
+        let piece = self.row(draft, depth - 1, Row::Equivalence)?;
+        self.sign(&mut draft.at, b")")?;
         match piece {
-            Piece::Term => self.from_primary(at, sheet, depth, from),
-            Piece::Claim(arrow) => Ok(Piece::Claim(arrow)),
+            None => self.from_primary(draft, depth, from),
+            Some(claim) => Ok(Some(claim)),
         }
     }
 
     // What `and` joins, or a term.
     #[cycle(formula_levels)]
-    pub fn atom(&self, at: &mut usize, sheet: &mut Sheet, depth: usize) -> Result<Piece, Fault>
-        ensures { WritesPiece (run (atom_of self.now.names.now (nest self.now.names.now depth) (slice_index self.now.text.now at.old)) self.now.text.now at.old) result at.new sheet.old sheet.new }
+    pub fn atom(&self, draft: &mut Draft, depth: usize) -> Result<Option<Claim>, Fault>
+        ensures { WritesPiece self.now (atom_of self.now.names.now (nest self.now.names.now depth) (slice_index self.now.text.now draft.old.at)) result draft.old draft.new }
     {
-        let from = sheet.count;
-        let c = self.front(*at);
-        if is_letter(c) {
-            let word = self.letters(at)?;
-            return self.from_word(at, sheet, depth, word);
+        let from = draft.sheet.count;
+        match self.front(draft.at) {
+            b'(' => self.enclosed(draft, depth),
+            b'-' => {
+                self.negated(draft, depth)?;
+                self.from_product(draft, depth, from)
+            }
+            c if is_letter(c) => {
+                let word = self.letters(&mut draft.at)?;
+                self.from_word(draft, depth, word)
+            }
+            _ => {
+                self.primary(draft, depth)?;
+                self.from_primary(draft, depth, from)
+            }
         }
-        if c == b'(' {
-            return self.enclosed(at, sheet, depth);
-        }
-        if c == b'-' {
-            self.negated(at, sheet, depth)?;
-            return self.from_product(at, sheet, depth, from);
-        }
-        self.primary(at, sheet, depth)?;
-        self.from_primary(at, sheet, depth, from)
     }
 
-    // A formula more, behind `and`.
-    #[cycle(formula_levels)]
-    fn and_next(
-        &self,
-        at: &mut usize,
-        sheet: &mut Sheet,
-        depth: usize,
-        from: usize,
-    ) -> Result<bool, Fault>
-        ensures { NextClaim (λ p. run (row_next (keyword (codes "and")) And (atom self.now.names.now (nest self.now.names.now depth)) p) self.now.text.now at.old) result at.new from sheet.old sheet.new }
+    // What joins a row.
+    fn between(&self, at: &mut usize, row: Row) -> Result<(), Fault>
+        ensures { run (between_of row) self.now.text.now at.old ≡ outcome_of result at.new }
     {
-        self.keyword(at, b"and")?;
-        let piece = self.atom(at, sheet, depth)?;
-        let arrow = claimed(piece)?;
-        sheet.insert(from, 4);
-        Ok(arrow)
+        match row {
+            Row::Conjunction => self.keyword(at, b"and"),
+            Row::Disjunction => self.keyword(at, b"or"),
+            Row::Equivalence => self.sign(at, b"<->"),
+        }
     }
 
-    // The formulas behind a first one, joined by `and`.
+    // A formula of the level below a row, or a term.
     #[cycle(formula_levels)]
-    fn conjoined(
+    fn operand(&self, draft: &mut Draft, depth: usize, row: Row) -> Result<Option<Claim>, Fault>
+        ensures { WritesPiece self.now (operand_of row self.now.names.now (nest self.now.names.now depth)) result draft.old draft.new }
+    {
+        match row {
+            Row::Conjunction => self.atom(draft, depth),
+            Row::Disjunction => self.row(draft, depth, Row::Conjunction),
+            Row::Equivalence => self.implication(draft, depth),
+        }
+    }
+
+    // A formula more of a row.
+    #[cycle(formula_levels)]
+    fn row_next(
         &self,
-        at: &mut usize,
-        sheet: &mut Sheet,
+        draft: &mut Draft,
         depth: usize,
+        row: Row,
         from: usize,
-        mut arrow: bool,
-    ) -> Result<bool, Fault>
-        ensures { ExtendsClaim (λ p. run (row_for 65536 97 (keyword (codes "and")) And (atom self.now.names.now (nest self.now.names.now depth)) p) self.now.text.now at.old) arrow result at.new from sheet.old sheet.new }
+    ) -> Result<Claim, Fault>
+        ensures { NextClaim self.now (row_next (between_of row) (join_of row) (operand_of row self.now.names.now (nest self.now.names.now depth))) result from draft.old draft.new }
+    {
+        self.between(&mut draft.at, row)?;
+        let middle = draft.sheet.count;
+        let claim = self.operand(draft, depth, row)?.ok_or(Fault::Unfit)?;
+        draft.sheet.join(row, from, middle);
+        Ok(claim)
+    }
+
+    // The formulas of a row behind its first one.
+    #[cycle(formula_levels)]
+    fn row_on(
+        &self,
+        draft: &mut Draft,
+        depth: usize,
+        row: Row,
+        from: usize,
+        mut claim: Claim,
+    ) -> Result<Claim, Fault>
+        ensures { ExtendsClaim self.now (row_for longest (first_of row) (between_of row) (join_of row) (operand_of row self.now.names.now (nest self.now.names.now depth))) claim result from draft.old draft.new }
     {
         for _turn in 0..LONGEST {
-            if arrow || self.front(*at) != b'a' {
-                return Ok(arrow);
+            if claim.arrow || self.front(draft.at) != row.first() {
+                return Ok(claim);
             }
-            arrow = self.and_next(at, sheet, depth, from)?;
+            claim = self.row_next(draft, depth, row, from)?;
         }
-        Ok(arrow)
+        Ok(claim)
     }
 
+    // A row of formulas, or a term.
     #[cycle(formula_levels)]
-    pub fn conjunction(
-        &self,
-        at: &mut usize,
-        sheet: &mut Sheet,
-        depth: usize,
-    ) -> Result<Piece, Fault>
-        ensures { WritesPiece (run (conjunction self.now.names.now (nest self.now.names.now depth)) self.now.text.now at.old) result at.new sheet.old sheet.new }
+    pub fn row(&self, draft: &mut Draft, depth: usize, row: Row) -> Result<Option<Claim>, Fault>
+        ensures { WritesPiece self.now (row_of row self.now.names.now (nest self.now.names.now depth)) result draft.old draft.new }
     {
-        let from = sheet.count;
-        match self.atom(at, sheet, depth)? {
-            Piece::Term => Ok(Piece::Term),
-            Piece::Claim(arrow) => {
-                let arrow = self.conjoined(at, sheet, depth, from, arrow)?;
-                Ok(Piece::Claim(arrow))
-            }
-        }
-    }
-
-    // A formula more, behind `or`.
-    #[cycle(formula_levels)]
-    fn or_next(
-        &self,
-        at: &mut usize,
-        sheet: &mut Sheet,
-        depth: usize,
-        from: usize,
-    ) -> Result<bool, Fault>
-        ensures { NextClaim (λ p. run (row_next (keyword (codes "or")) Or (conjunction self.now.names.now (nest self.now.names.now depth)) p) self.now.text.now at.old) result at.new from sheet.old sheet.new }
-    {
-        self.keyword(at, b"or")?;
-        let piece = self.conjunction(at, sheet, depth)?;
-        let arrow = claimed(piece)?;
-        sheet.insert(from, 5);
-        Ok(arrow)
-    }
-
-    // The formulas behind a first one, joined by `or`.
-    #[cycle(formula_levels)]
-    fn disjoined(
-        &self,
-        at: &mut usize,
-        sheet: &mut Sheet,
-        depth: usize,
-        from: usize,
-        mut arrow: bool,
-    ) -> Result<bool, Fault>
-        ensures { ExtendsClaim (λ p. run (row_for 65536 111 (keyword (codes "or")) Or (conjunction self.now.names.now (nest self.now.names.now depth)) p) self.now.text.now at.old) arrow result at.new from sheet.old sheet.new }
-    {
-        for _turn in 0..LONGEST {
-            if arrow || self.front(*at) != b'o' {
-                return Ok(arrow);
-            }
-            arrow = self.or_next(at, sheet, depth, from)?;
-        }
-        Ok(arrow)
-    }
-
-    #[cycle(formula_levels)]
-    pub fn disjunction(
-        &self,
-        at: &mut usize,
-        sheet: &mut Sheet,
-        depth: usize,
-    ) -> Result<Piece, Fault>
-        ensures { WritesPiece (run (disjunction self.now.names.now (nest self.now.names.now depth)) self.now.text.now at.old) result at.new sheet.old sheet.new }
-    {
-        let from = sheet.count;
-        match self.conjunction(at, sheet, depth)? {
-            Piece::Term => Ok(Piece::Term),
-            Piece::Claim(arrow) => {
-                let arrow = self.disjoined(at, sheet, depth, from, arrow)?;
-                Ok(Piece::Claim(arrow))
-            }
-        }
+        let from = draft.sheet.count;
+        let Some(first) = self.operand(draft, depth, row)? else {
+            return Ok(None);
+        };
+        let last = self.row_on(draft, depth, row, from, first)?;
+        Ok(Some(last))
     }
 
     // The arrow behind a formula, if it hasn't been read.
-    fn arrow_behind(&self, at: &mut usize, arrow: bool) -> Result<(), Fault>
-        ensures { run (arrow_behind arrow) self.now.text.now at.old ≡ outcome_of result at.new }
+    fn arrow_behind(&self, at: &mut usize, claim: Claim) -> Result<(), Fault>
+        ensures { run (arrow_behind claim.arrow) self.now.text.now at.old ≡ outcome_of result at.new }
     {
-        if arrow {
+        if claim.arrow {
             return Ok(());
         }
         self.sign(at, b"->")
@@ -309,119 +263,45 @@ impl Source<'_> {
 
     // A formula more, behind an arrow.
     #[cycle(formula_levels)]
-    fn arrow_next(
-        &self,
-        at: &mut usize,
-        sheet: &mut Sheet,
-        depth: usize,
-        arrow: bool,
-    ) -> Result<bool, Fault>
-        ensures { ArrowNext (λ s. run (chain_next (disjunction self.now.names.now (nest self.now.names.now depth)) s) self.now.text.now at.old) arrow result at.new sheet.old sheet.new }
+    fn arrow_next(&self, draft: &mut Draft, depth: usize, claim: Claim) -> Result<Claim, Fault>
+        ensures { ArrowNext self.now (chain_next (disjunction self.now.names.now (nest self.now.names.now depth))) claim result draft.old draft.new }
     {
-        self.arrow_behind(at, arrow)?;
-        let piece = self.disjunction(at, sheet, depth)?;
-        let arrow = claimed(piece)?;
-        Ok(arrow)
+        self.arrow_behind(&mut draft.at, claim)?;
+        self.row(draft, depth, Row::Disjunction)?
+            .ok_or(Fault::Unfit)
     }
 
     // The formulas behind a first one, joined by arrows.
     #[cycle(formula_levels)]
     fn chained(
         &self,
-        at: &mut usize,
-        sheet: &mut Sheet,
+        draft: &mut Draft,
         depth: usize,
         mut from: usize,
-        mut arrow: bool,
+        mut claim: Claim,
     ) -> Result<(), Fault>
-        ensures { ExtendsChain (λ p. run (chained (disjunction self.now.names.now (nest self.now.names.now depth)) p) self.now.text.now at.old) arrow result at.new from sheet.old sheet.new }
+        ensures { ExtendsChain self.now (chained (disjunction self.now.names.now (nest self.now.names.now depth))) claim result from draft.old draft.new }
     {
         for _turn in 0..LONGEST {
-            if !arrow && self.front(*at) != b'-' {
+            if !claim.arrow && self.front(draft.at) != b'-' {
                 return Ok(());
             }
-            sheet.imply(from);
-            from = sheet.count;
-            arrow = self.arrow_next(at, sheet, depth, arrow)?;
+            draft.sheet.imply(from);
+            from = draft.sheet.count;
+            claim = self.arrow_next(draft, depth, claim)?;
         }
         Ok(())
     }
 
     #[cycle(formula_levels)]
-    pub fn implication(
-        &self,
-        at: &mut usize,
-        sheet: &mut Sheet,
-        depth: usize,
-    ) -> Result<Piece, Fault>
-        ensures { WritesPiece (run (implication self.now.names.now (nest self.now.names.now depth)) self.now.text.now at.old) result at.new sheet.old sheet.new }
+    pub fn implication(&self, draft: &mut Draft, depth: usize) -> Result<Option<Claim>, Fault>
+        ensures { WritesPiece self.now (implication self.now.names.now (nest self.now.names.now depth)) result draft.old draft.new }
     {
-        let from = sheet.count;
-        match self.disjunction(at, sheet, depth)? {
-            Piece::Term => Ok(Piece::Term),
-            Piece::Claim(arrow) => {
-                self.chained(at, sheet, depth, from, arrow)?;
-                Ok(Piece::Claim(false))
-            }
-        }
-    }
-
-    // A formula more, behind `<->`.
-    #[cycle(formula_levels)]
-    fn same_next(
-        &self,
-        at: &mut usize,
-        sheet: &mut Sheet,
-        depth: usize,
-        from: usize,
-    ) -> Result<bool, Fault>
-        ensures { NextClaim (λ p. run (row_next (sign (codes "<->")) equivalent (implication self.now.names.now (nest self.now.names.now depth)) p) self.now.text.now at.old) result at.new from sheet.old sheet.new }
-    {
-        self.sign(at, b"<->")?;
-        let middle = sheet.count;
-        let piece = self.implication(at, sheet, depth)?;
-        let arrow = claimed(piece)?;
-        sheet.equate(from, middle);
-        Ok(arrow)
-    }
-
-    // The formulas behind a first one, joined by `<->`.
-    #[cycle(formula_levels)]
-    fn equated(
-        &self,
-        at: &mut usize,
-        sheet: &mut Sheet,
-        depth: usize,
-        from: usize,
-        mut arrow: bool,
-    ) -> Result<bool, Fault>
-        ensures { ExtendsClaim (λ p. run (row_for 65536 60 (sign (codes "<->")) equivalent (implication self.now.names.now (nest self.now.names.now depth)) p) self.now.text.now at.old) arrow result at.new from sheet.old sheet.new }
-    {
-        for _turn in 0..LONGEST {
-            if arrow || self.front(*at) != b'<' {
-                return Ok(arrow);
-            }
-            arrow = self.same_next(at, sheet, depth, from)?;
-        }
-        Ok(arrow)
-    }
-
-    #[cycle(formula_levels)]
-    pub fn equivalence(
-        &self,
-        at: &mut usize,
-        sheet: &mut Sheet,
-        depth: usize,
-    ) -> Result<Piece, Fault>
-        ensures { WritesPiece (run (equivalence self.now.names.now (nest self.now.names.now depth)) self.now.text.now at.old) result at.new sheet.old sheet.new }
-    {
-        let from = sheet.count;
-        match self.implication(at, sheet, depth)? {
-            Piece::Term => Ok(Piece::Term),
-            Piece::Claim(arrow) => {
-                let arrow = self.equated(at, sheet, depth, from, arrow)?;
-                Ok(Piece::Claim(arrow))
-            }
-        }
+        let from = draft.sheet.count;
+        let Some(first) = self.row(draft, depth, Row::Disjunction)? else {
+            return Ok(None);
+        };
+        self.chained(draft, depth, from, first)?;
+        Ok(Some(Claim { arrow: false }))
     }
 }

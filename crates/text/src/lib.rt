@@ -2,10 +2,12 @@
 #![tactic(auto)]
 
 pub mod character;
+pub mod claim;
+pub mod draft;
 pub mod formula;
-pub mod piece;
 pub mod prefix;
 pub mod read;
+pub mod row;
 pub mod sentence;
 pub mod sheet;
 pub mod source;

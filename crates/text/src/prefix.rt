@@ -1,10 +1,10 @@
 // The quantifiers of a sentence, with their names.
-ghost use Rattle.std.specs.Prelude.{◌≡◌, ◌+◌, ◌≤◌, slice_index};
+ghost use Rattle.std.specs.Prelude.{◌≡◌, ◌+◌, ◌≤◌, map, slice_index};
 ghost use Rattle.grammar.specs.Reader.{run};
-ghost use Rattle.grammar.specs.Text.{quantifier_of, prefix_next, quantifiers};
+ghost use Rattle.grammar.specs.Text.{quantifier_of, prefix_next, is_quantifier_letter, quantifiers};
 ghost use Rattle.grammar.specs.Tokens.{new_name};
 ghost use Rattle.text.specs.Outcome.{outcome_of};
-ghost use Rattle.text.specs.Prefix.{prefix_of, Longer, PrefixRead, PrefixReads};
+ghost use Rattle.text.specs.Prefix.{name_of, prefix_of, Longer, PrefixRead, PrefixReads};
 
 use crate::source::{Source, position};
 use crate::term::is_reserved;
@@ -12,23 +12,39 @@ use grammar::fault::Fault;
 use grammar::word::Word;
 
 #[derive(Clone, Copy)]
+pub struct Quantifier {
+    // and not `some`
+    pub every: bool,
+    pub name: Word,
+}
+
+// At most four quantifiers, in fixed memory.
+#[derive(Clone, Copy)]
 pub struct Prefix {
     // the innermost first, as many as are counted
-    pub names: [Word; 4],
-    pub every: [bool; 4],
+    pub quantifiers: [Quantifier; 4],
     pub count: usize,
 }
 
-// One quantifier more, the innermost.
-fn longer(prefix: Prefix, every: bool, name: Word) -> Prefix
-    requires { prefix.count ≤ 3 }
-    ensures value { Longer prefix every name result }
-    ensures count { result.count ≡ prefix.count + 1 }
-{
-    Prefix {
-        names: [name, prefix.names[0], prefix.names[1], prefix.names[2]],
-        every: [every, prefix.every[0], prefix.every[1], prefix.every[2]],
-        count: prefix.count + 1,
+impl Prefix {
+    // One quantifier more, the innermost.
+    fn longer(self, quantifier: Quantifier) -> Prefix
+        requires { self.count ≤ 3 }
+        ensures value { Longer self quantifier result }
+        ensures count { result.count ≡ self.count + 1 }
+    {
+        let [first, second, third, _] = self.quantifiers;
+        Prefix {
+            quantifiers: [quantifier, first, second, third],
+            count: self.count + 1,
+        }
+    }
+
+    // The names, each in its quantifier's place.
+    pub(crate) fn names(&self) -> [Word; 4]
+        ensures { result ≡ map name_of self.now.quantifiers }
+    {
+        self.quantifiers.map(|quantifier| quantifier.name)
     }
 }
 
@@ -54,12 +70,16 @@ impl Source<'_> {
     fn quantifier(&self, at: &mut usize) -> Result<bool, Fault>
         ensures { run (quantifier_of (slice_index self.now.text.now at.old)) self.now.text.now at.old ≡ outcome_of result at.new }
     {
-        if self.front(*at) == b'e' {
-            self.keyword(at, b"every")?;
-            return Ok(true);
+        match self.front(*at) {
+            b'e' => {
+                self.keyword(at, b"every")?;
+                Ok(true)
+            }
+            _ => {
+                self.keyword(at, b"some")?;
+                Ok(false)
+            }
         }
-        self.keyword(at, b"some")?;
-        Ok(false)
     }
 }
 
@@ -68,32 +88,41 @@ fn prefix_next(text: &[u8], at: &mut usize, prefix: Prefix) -> Result<Prefix, Fa
     requires { prefix.count ≤ 3 }
     ensures { PrefixRead (prefix.count + 1) (run (prefix_next (prefix_of prefix)) text.now at.old) result at.new }
 {
+    let names = prefix.names();
     let source = Source {
         text,
-        names: &prefix.names[0..prefix.count],
+        names: &names[..prefix.count],
     };
     let every = source.quantifier(at)?;
     let name = source.new_name(at)?;
-    Ok(longer(prefix, every, name))
+    Ok(prefix.longer(Quantifier { every, name }))
+}
+
+// Whether a quantifier begins like this.
+fn begins_quantifier(c: u8) -> bool
+    ensures { result ≡ is_quantifier_letter c }
+{
+    matches!(c, b'e' | b's')
 }
 
 // At most four quantifiers.
 pub fn quantifiers(text: &[u8], at: &mut usize) -> Result<Prefix, Fault>
     ensures { PrefixReads (run quantifiers text.now at.old) result at.new }
 {
-    let none = Word {
-        letters: [0; 8],
-        length: 0,
+    let none = Quantifier {
+        every: false,
+        name: Word {
+            letters: [0; 8],
+            length: 0,
+        },
     };
     let mut prefix = Prefix {
-        names: [none; 4],
-        every: [false; 4],
+        quantifiers: [none; 4],
         count: 0,
     };
     let source = Source { text, names: &[] };
     for _turn in 0..4usize {
-        let c = source.front(*at);
-        if c != b'e' && c != b's' {
+        if !begins_quantifier(source.front(*at)) {
             return Ok(prefix);
         }
         prefix = prefix_next(text, at, prefix)?;

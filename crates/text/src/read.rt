@@ -6,22 +6,13 @@ ghost use Rattle.grammar.specs.Reader.{refusal_at};
 use grammar::fault::Fault;
 use grammar::refusal::Refusal;
 
-// One for a byte that begins a character.
-fn weight(byte: u8) -> usize
-    ensures { result ≡ (if is_character byte then 1 else 0) }
-{
-    if byte < 128 || 192 <= byte { 1 } else { 0 }
-}
-
-// How many characters a text has.
+// How many characters a text has: a byte that goes on a character isn't one of its own.
 fn characters(text: &[u8]) -> usize
     ensures { result ≡ characters text.now }
 {
-    let mut count = 0;
-    for byte in text {
-        count += weight(*byte);
-    }
-    count
+    text.iter()
+        .filter(|&&byte| byte < 128 || 192 <= byte)
+        .count()
 }
 
 // The refusal of a fault where so many characters stand before the one in front.

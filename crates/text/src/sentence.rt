@@ -1,11 +1,12 @@
 // Sentences: their quantifiers, then a formula about the names that are quantified.
-ghost use Rattle.std.specs.Prelude.{◌≡◌, ◌≤◌};
+ghost use Rattle.std.specs.Prelude.{◌≤◌};
 ghost use Rattle.grammar.specs.Reader.{run};
 ghost use Rattle.grammar.specs.Text.{sentence};
-ghost use Rattle.text.specs.Sentence.{Announces, WritesSentence, word_of};
+ghost use Rattle.text.specs.Sentence.{Announces, WritesSentence};
 
-use crate::piece::claimed;
+use crate::draft::Draft;
 use crate::prefix::{Prefix, quantifiers};
+use crate::row::Row;
 use crate::sheet::Sheet;
 use crate::source::Source;
 use grammar::fault::Fault;
@@ -13,37 +14,31 @@ use grammar::fault::Fault;
 // How deep a text may be nested.
 pub const DEEPEST: usize = 200;
 
-// The word of a quantifier.
-fn quantifier_word(every: bool) -> i64
-    ensures { result ≡ word_of every }
-{
-    if every { 1 } else { 0 }
-}
-
 // How many quantifiers there are, and these.
 fn announce(sheet: &mut Sheet, prefix: Prefix)
     requires { prefix.count ≤ 4 }
     ensures { Announces prefix sheet.old sheet.new }
 {
     sheet.put(prefix.count as i64);
-    for i in 0..prefix.count {
-        sheet.put(quantifier_word(prefix.every[i]));
+    for quantifier in &prefix.quantifiers[..prefix.count] {
+        sheet.put(i64::from(quantifier.every));
     }
 }
 
-pub fn sentence(text: &[u8], at: &mut usize, sheet: &mut Sheet) -> Result<(), Fault>
-    ensures { WritesSentence (run sentence text.now at.old) result at.new sheet.old sheet.new }
+pub fn sentence(text: &[u8], draft: &mut Draft) -> Result<(), Fault>
+    ensures { WritesSentence text.now result draft.old draft.new }
 {
     let start = Source { text, names: &[] };
-    start.blanks(at);
-    let prefix = quantifiers(text, at)?;
-    start.sign(at, b":")?;
-    announce(sheet, prefix);
+    start.blanks(&mut draft.at);
+    let prefix = quantifiers(text, &mut draft.at)?;
+    start.sign(&mut draft.at, b":")?;
+    announce(&mut draft.sheet, prefix);
+    let names = prefix.names();
     let source = Source {
         text,
-        names: &prefix.names[0..prefix.count],
+        names: &names[..prefix.count],
     };
-    let piece = source.equivalence(at, sheet, DEEPEST)?;
-    claimed(piece)?;
+    let claim = source.row(draft, DEEPEST, Row::Equivalence)?;
+    claim.ok_or(Fault::Unfit)?;
     Ok(())
 }

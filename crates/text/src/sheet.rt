@@ -1,8 +1,10 @@
 // Words as they are written, as many as a sentence may have; of more it is only known that they are too many.
 ghost use Rattle.std.specs.Prelude.{◌≡◌, ◌+◌, ◌≤◌, min};
-ghost use Rattle.text.specs.Sheet.{Puts, Inserts, Negates, Repeats, Copies, Multiplies, Raises, Exchanges, Compares, Subtracts, SubtractsFrom, Implies, Equates};
+ghost use Rattle.text.specs.Sheet.{Puts, Inserts, Negates, Repeats, Copies, Multiplies, Raises, Exchanges, Compares, Subtracts, SubtractsFrom, Implies, Equates, Joins, kind_word};
 
+use crate::row::Row;
 use grammar::relation::Relation;
+use words::kind::Kind;
 
 // How many words a sentence may have.
 pub const CAPACITY: usize = 1024;
@@ -11,13 +13,27 @@ pub const CAPACITY: usize = 1024;
 fn three_on(place: usize) -> usize
     ensures { result ≡ min (place + 3) 1025 }
 {
-    if place < CAPACITY - 2 {
-        place + 3
-    } else {
-        CAPACITY + 1
+    place.saturating_add(3).min(CAPACITY + 1)
+}
+
+// The word that says this kind.
+fn kind_word(kind: Kind) -> i64
+    ensures { result ≡ kind_word kind }
+{
+    match kind {
+        Kind::BelowZero => 1,
+        Kind::EqualsZero => 2,
+        Kind::Not => 3,
+        Kind::And => 4,
+        Kind::Or => 5,
+        Kind::Variable => 6,
+        Kind::Number => 7,
+        Kind::Sum => 8,
+        Kind::Product => 9,
     }
 }
 
+// Fixed memory, in which no write fails: what comes past the capacity is only counted.
 pub struct Sheet {
     pub words: [i64; 1024],
     // one past the capacity where there are too many
@@ -47,13 +63,27 @@ impl Sheet {
         }
     }
 
+    // A kind at the end.
+    pub fn put_kind(&mut self, kind: Kind)
+        ensures { Puts (kind_word kind) self.old self.new }
+    {
+        self.put(kind_word(kind));
+    }
+
+    // A kind in front of the words that begin at `from`.
+    pub fn insert_kind(&mut self, from: usize, kind: Kind)
+        ensures { Inserts from (kind_word kind) self.old self.new }
+    {
+        self.insert(from, kind_word(kind));
+    }
+
     // Minus one times the term that begins at `from`.
     pub fn negate(&mut self, from: usize)
         ensures { Negates from self.old self.new }
     {
         self.insert(from, -1);
-        self.insert(from, 7);
-        self.insert(from, 9);
+        self.insert_kind(from, Kind::Number);
+        self.insert_kind(from, Kind::Product);
     }
 
     // The words between two places once more at the end.
@@ -63,6 +93,7 @@ impl Sheet {
         if to > CAPACITY {
             return;
         }
+        // by index, since `put` writes to the words that are read; copy_within would need its tests of room again
         for i in from..to {
             self.put(self.words[i]);
         }
@@ -82,7 +113,7 @@ impl Sheet {
         ensures { Multiplies times from self.old self.new }
     {
         for _turn in 0..times {
-            self.insert(from, 9);
+            self.insert_kind(from, Kind::Product);
         }
     }
 
@@ -112,30 +143,30 @@ impl Sheet {
         match relation {
             Relation::Below => {
                 self.subtract(from, middle);
-                self.insert(from, 1);
+                self.insert_kind(from, Kind::BelowZero);
             }
             Relation::AtMost => {
                 self.subtract_from(from, middle);
-                self.insert(from, 1);
-                self.insert(from, 3);
+                self.insert_kind(from, Kind::BelowZero);
+                self.insert_kind(from, Kind::Not);
             }
             Relation::Equal => {
                 self.subtract(from, middle);
-                self.insert(from, 2);
+                self.insert_kind(from, Kind::EqualsZero);
             }
             Relation::Unequal => {
                 self.subtract(from, middle);
-                self.insert(from, 2);
-                self.insert(from, 3);
+                self.insert_kind(from, Kind::EqualsZero);
+                self.insert_kind(from, Kind::Not);
             }
             Relation::Above => {
                 self.subtract_from(from, middle);
-                self.insert(from, 1);
+                self.insert_kind(from, Kind::BelowZero);
             }
             Relation::AtLeast => {
                 self.subtract(from, middle);
-                self.insert(from, 1);
-                self.insert(from, 3);
+                self.insert_kind(from, Kind::BelowZero);
+                self.insert_kind(from, Kind::Not);
             }
         }
     }
@@ -145,7 +176,7 @@ impl Sheet {
         ensures { Subtracts from middle self.old self.new }
     {
         self.negate(middle);
-        self.insert(from, 8);
+        self.insert_kind(from, Kind::Sum);
     }
 
     // The second term without the first.
@@ -154,27 +185,38 @@ impl Sheet {
     {
         self.negate(from);
         self.exchange(from, three_on(middle));
-        self.insert(from, 8);
+        self.insert_kind(from, Kind::Sum);
     }
 
     // In front of what follows from the formula that begins at `from`.
     pub fn imply(&mut self, from: usize)
         ensures { Implies from self.old self.new }
     {
-        self.insert(from, 3);
-        self.insert(from, 5);
+        self.insert_kind(from, Kind::Not);
+        self.insert_kind(from, Kind::Or);
     }
 
     // That the formula that begins at `from` and the one that begins at `middle` imply each other.
-    pub fn equate(&mut self, from: usize, middle: usize)
+    fn equate(&mut self, from: usize, middle: usize)
         ensures { Equates from middle self.old self.new }
     {
         let end = self.count;
-        self.put(5);
-        self.put(3);
+        self.put_kind(Kind::Or);
+        self.put_kind(Kind::Not);
         self.repeat(middle, end);
         self.repeat(from, middle);
         self.imply(from);
-        self.insert(from, 4);
+        self.insert_kind(from, Kind::And);
+    }
+
+    // The formula that begins at `from` with the one that begins at `middle`.
+    pub fn join(&mut self, row: Row, from: usize, middle: usize)
+        ensures { Joins row from middle self.old self.new }
+    {
+        match row {
+            Row::Conjunction => self.insert_kind(from, Kind::And),
+            Row::Disjunction => self.insert_kind(from, Kind::Or),
+            Row::Equivalence => self.equate(from, middle),
+        }
     }
 }

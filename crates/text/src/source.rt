@@ -26,11 +26,7 @@ impl Source<'_> {
     pub fn front(&self, at: usize) -> u8
         ensures { result ≡ slice_index self.now.text.now at }
     {
-        if at < self.text.len() {
-            self.text[at]
-        } else {
-            0
-        }
+        self.text.get(at).copied().unwrap_or(0)
     }
 
     pub fn pass(&self, at: &mut usize)
@@ -97,20 +93,18 @@ impl Source<'_> {
     fn letters_on(&self, at: &mut usize) -> Word
         ensures { run letters_on self.now.text.now at.old ≡ Read result at.new }
     {
-        let mut word = Word {
-            letters: [0; 8],
-            length: 0,
-        };
-        for i in 0..8 {
+        let mut letters = [0; 8];
+        let mut length = 0;
+        for letter in &mut letters {
             let c = self.front(*at);
             if !is_letter(c) {
-                return word;
+                break;
             }
             self.pass(at);
-            word.letters[i] = c;
-            word.length = i + 1;
+            *letter = c;
+            length += 1;
         }
-        word
+        Word { letters, length }
     }
 
     // One to eight letters.
@@ -159,10 +153,5 @@ pub fn position(names: &[Word], word: Word) -> Option<usize>
     ensures value { result ≡ position names.now word }
     ensures within { elim result [ Some i ↦ i < length names.now | None ↦ Unit {0} ] }
 {
-    for (i, name) in names.iter().enumerate() {
-        if name.letters == word.letters {
-            return Some(i);
-        }
-    }
-    None
+    names.iter().position(|name| name.letters == word.letters)
 }

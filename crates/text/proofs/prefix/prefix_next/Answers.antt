@@ -1,10 +1,11 @@
 -- The quantifier, then its name.
-use Rattle.std.proofs.Common.{◌≡◌, ◌-◌, take, sym, ap, ◌∙◌, arith}
+use Rattle.std.proofs.Common.{◌≡◌, take, sym, ap, ◌∙◌}
+use Rattle.std.proofs.lemmas.List.{take-map}
 use Rattle.grammar.specs.Reader.{run, Look, Read}
 use Rattle.grammar.specs.Text.{quantifier_of, prefix_next}
 use Rattle.grammar.specs.Tokens.{new_name}
 use Rattle.grammar.proofs.Runs.{goes_on, stops}
-use Rattle.text.specs.Prefix.{prefix_of}
+use Rattle.text.specs.Prefix.{name_of, prefix_of}
 use Rattle.text.proofs.Prefixes.{prefix_refused}
 use Rattle.text.proofs.prefix.prefix_next.Goals as goal
 
@@ -15,14 +16,14 @@ returns-in_err-every c = prefix_refused _ _ c.from_residual.result _ _ (stops (L
 pub returns-in_err-name : goal.returns-in_err-name
 unfolding prefix_next run
 returns-in_err-name c =
-    let same : c.args.prefix.count ≡ c.args.prefix.count - 0 = omega arith in
-    prefix_refused _ _ c.from_residual-in_err-name.result _ _ (goes_on (Look quantifier_of) _ _ _ _ _ c.in_ok-every.ensures ∙ stops (new_name (prefix_of c.args.prefix).names) _ _ _ _ (ap (λ k. run (new_name (take k c.args.prefix.names)) c.args.text.now c.quantifier.new.at) same ∙ c.in_err-name.ensures)) c.from_residual-in_err-name.ensures.1
+    let named : take c.args.prefix.count c.names-names.result ≡ (prefix_of c.args.prefix).names = ap (take c.args.prefix.count) c.names-names.ensures ∙ take-map name_of c.args.prefix.count c.args.prefix.quantifiers in
+    prefix_refused _ _ c.from_residual-in_err-name.result _ _ (goes_on (Look quantifier_of) _ _ _ _ _ c.in_ok-every.ensures ∙ stops (new_name (prefix_of c.args.prefix).names) _ _ _ _ (ap (λ names. run (new_name names) c.args.text.now c.quantifier.new.at) (sym named) ∙ c.in_err-name.ensures)) c.from_residual-in_err-name.ensures.1
 
 pub returns : goal.returns
 unfolding prefix_next run
 returns c =
-    let same : c.args.prefix.count ≡ c.args.prefix.count - 0 = omega arith in (
-      goes_on (Look quantifier_of) _ _ _ _ _ c.in_ok-every.ensures ∙ goes_on (new_name (prefix_of c.args.prefix).names) _ _ _ _ _ (ap (λ k. run (new_name (take k c.args.prefix.names)) c.args.text.now c.quantifier.new.at) same ∙ c.in_ok-name.ensures) ∙
+    let named : take c.args.prefix.count c.names-names.result ≡ (prefix_of c.args.prefix).names = ap (take c.args.prefix.count) c.names-names.ensures ∙ take-map name_of c.args.prefix.count c.args.prefix.quantifiers in (
+      goes_on (Look quantifier_of) _ _ _ _ _ c.in_ok-every.ensures ∙ goes_on (new_name (prefix_of c.args.prefix).names) _ _ _ _ _ (ap (λ names. run (new_name names) c.args.text.now c.quantifier.new.at) (sym named) ∙ c.in_ok-name.ensures) ∙
           ap (λ p. Read p c.new_name.new.at) (sym c.longer.ensures.value),
       c.longer.ensures.count,
     )

@@ -1,23 +1,33 @@
 -- The words are put one by one.
-use Rattle.std.proofs.Common.{◌≡◌, ◌+◌, ◌<◌, [], ◌∷◌, ◌++◌, map, length, take, pos, ap, ◌∙◌, arith, w64, SFits, rules}
+use Rattle.std.proofs.Common.{sym, arith, length, ◌<◌, ◌≤◌, ◌≡◌, Bool, true, false, [], ◌∷◌, ◌++◌, get_or, map, take, pos, refl, ap, ◌∙◌, take_all, w64, SFits, rules}
+use mir.Val.{bool_byte}
 use Rattle.std.proofs.lemmas.Int.{to_z-of_z}
+use Rattle.std.proofs.lemmas.List.{length-map, get_or-map}
 use Rattle.grammar.specs.Meaning.{quantifier_word}
+use Rattle.text.specs.Prefix.{every_of}
 use Rattle.text.proofs.Prefixes.{one_more_word}
 use Rattle.text.proofs.Sheets.{same_words}
 use Rattle.text.proofs.sentence.announce.Goals as goal
 
-pub loop-i-preserved : goal.loop-i-preserved
-loop-i-preserved c held =
-    let every-long : length c.args.prefix.every ≡ 4 = search rules in
-    let within : c.loop-i.i < length c.args.prefix.every = omega (arith, c.requires, c.loop-i-test.true) in
-    same_words c.put-in-loop-i.new.self _ (pos c.args.prefix.count ∷ map quantifier_word (take (c.loop-i.i + 1) c.args.prefix.every))
-    (ap (λ u. pos c.args.prefix.count ∷ (map quantifier_word (take c.loop-i.i c.args.prefix.every) ++ (u ∷ []))) (to_z-of_z w64 c.quantifier_word.result (record { sfits = c.quantifier_word.type_inv }) ∙ c.quantifier_word.ensures) ∙
-    ap (λ l. pos c.args.prefix.count ∷ l) (one_more_word c.args.prefix.every c.loop-i.i within))
-    (c.put-in-loop-i.ensures (pos c.args.prefix.count ∷ map quantifier_word (take c.loop-i.i c.args.prefix.every)) (c.loop-i.invariant held))
+word_is : (every : Bool) → pos (bool_byte every) ≡ quantifier_word every
+word_is true = refl
+word_is false = refl
+
+pub loop-quantifier-preserved : goal.loop-quantifier-preserved
+loop-quantifier-preserved c held =
+    let quantifiers = take c.args.prefix.count c.args.prefix.quantifiers in
+    let i = c.loop-quantifier.quantifier-index in
+    let within : i < length (map every_of quantifiers) = omega (arith, c.loop-quantifier-test.true, length-map quantifiers every_of) in
+    let every_is : every_of (get_or quantifiers i (record { every = false; name = record { letters = []; length = 0 } })) ≡ get_or (map every_of quantifiers) i false = sym (get_or-map every_of quantifiers i _ false c.loop-quantifier-test.true) in
+    same_words _ _ _
+    (ap (λ u. pos c.args.prefix.count ∷ (map quantifier_word (take i (map every_of quantifiers)) ++ (u ∷ []))) (to_z-of_z w64 c.from.result (record { sfits = c.from.type_inv }) ∙ c.from.ensures ∙ word_is _ ∙ ap quantifier_word every_is) ∙
+    ap (λ l. pos c.args.prefix.count ∷ l) (one_more_word (map every_of quantifiers) i within))
+    (c.put-in-loop-quantifier.ensures (pos c.args.prefix.count ∷ map quantifier_word (take i (map every_of quantifiers))) (c.loop-quantifier.invariant held))
 
 pub returns : goal.returns
 returns c held =
+    let quantifiers = take c.args.prefix.count c.args.prefix.quantifiers in
     let fits : SFits w64 (pos c.args.prefix.count) = search rules in
-    let counted = same_words c.put.new.self _ (pos c.args.prefix.count ∷ []) (ap (λ u. u ∷ []) (to_z-of_z w64 (pos c.args.prefix.count) fits)) (c.put.ensures [] held) in
-    let all : c.loop-i.i ≡ c.args.prefix.count = omega (arith, c.loop-i-test.false) in
-    same_words c.loop-i.sheet _ _ (ap (λ n. pos c.args.prefix.count ∷ map quantifier_word (take n c.args.prefix.every)) all) (c.loop-i.invariant counted)
+    let counted = same_words _ _ _ (ap (λ u. u ∷ []) (to_z-of_z w64 (pos c.args.prefix.count) fits)) (c.put.ensures [] held) in
+    let all : length (map every_of quantifiers) ≤ c.loop-quantifier.quantifier-index = omega (arith, c.loop-quantifier-test.false, length-map quantifiers every_of) in
+    same_words _ _ _ (ap (λ l. pos c.args.prefix.count ∷ map quantifier_word l) (take_all c.loop-quantifier.quantifier-index (map every_of quantifiers) all)) (c.loop-quantifier.invariant counted)

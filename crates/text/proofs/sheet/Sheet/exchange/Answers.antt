@@ -29,4 +29,4 @@ returns-else-from-middle c xs ys zs begins ends held =
       | else-from-middle-via-then-from-middle+else-middle-self v ↦ omega (arith, v.if-middle-self.false)
       | else-from-middle-via-else-from-middle v ↦ omega (arith, v.if-from-middle.false)
     ] in
-    too_many c.args.self.now (xs ++ (ys ++ zs)) (xs ++ (zs ++ ys)) many (omega arith) held
+    too_many _ (xs ++ (ys ++ zs)) (xs ++ (zs ++ ys)) many (omega arith) held

@@ -1,5 +1,5 @@
 -- The words are put at the end one by one.
-use Rattle.std.proofs.Common.{◌≡◌, ◌+◌, ◌-◌, ◌≤◌, ◌++◌, length, get_or, take, pos, ap, arith, length-append, take_all, w64, SFits, rules}
+use Rattle.std.proofs.Common.{◌≡◌, ◌+◌, ◌-◌, ◌≤◌, ◌++◌, length, get_or, pos, ap, arith, length-append, take_all, w64, SFits, rules}
 use Rattle.std.proofs.lemmas.Int.{to_z-of_z}
 use Rattle.text.proofs.Sheets.{too_many, same_words, repeated}
 use Rattle.text.proofs.sheet.Sheet.repeat.Goals as goal
@@ -11,7 +11,7 @@ returns-then-to-gt-CAPACITY c xs ys zs begins ends held =
     let two : length (ys ++ zs) ≡ length ys + length zs = length-append ys zs in
     let three : length (xs ++ (ys ++ (zs ++ ys))) ≡ length xs + length (ys ++ (zs ++ ys)) = length-append xs (ys ++ (zs ++ ys)) in
     let four : length (ys ++ (zs ++ ys)) ≡ length ys + length (zs ++ ys) = length-append ys (zs ++ ys) in
-    too_many c.args.self.now (xs ++ (ys ++ zs)) (xs ++ (ys ++ (zs ++ ys))) (omega (arith, c.if-to-gt-CAPACITY.true)) (omega (arith, c.if-to-gt-CAPACITY.true)) held
+    too_many _ (xs ++ (ys ++ zs)) (xs ++ (ys ++ (zs ++ ys))) (omega (arith, c.if-to-gt-CAPACITY.true)) (omega (arith, c.if-to-gt-CAPACITY.true)) held
 
 pub loop-i-preserved : goal.loop-i-preserved
 loop-i-preserved c xs ys zs begins ends held =
@@ -23,5 +23,5 @@ pub returns : goal.returns
 returns c xs ys zs begins ends held =
     let front : length (xs ++ ys) ≡ length xs + length ys = length-append xs ys in
     let k : length ys ≤ c.loop-i.i - c.args.from = omega (arith, c.if-to-gt-CAPACITY.false, c.loop-i-test.false) in
-    same_words c.loop-i.self (xs ++ (ys ++ (zs ++ take (c.loop-i.i - c.args.from) ys))) (xs ++ (ys ++ (zs ++ ys))) (ap (λ l. xs ++ (ys ++ (zs ++ l))) (take_all (c.loop-i.i - c.args.from) ys k))
+    same_words _ _ _ (ap (λ l. xs ++ (ys ++ (zs ++ l))) (take_all (c.loop-i.i - c.args.from) ys k))
     (c.loop-i.invariant xs ys zs begins ends held)

@@ -7,5 +7,5 @@ use Rattle.text.proofs.sheet.Sheet.subtract.Goals as goal
 pub returns : goal.returns
 unfolding term_words
 returns c xs s t begins ends held =
-    c.insert.ensures xs (term_words s ++ term_words (negative t)) begins
+    c.insert_kind.ensures xs (term_words s ++ term_words (negative t)) begins
     (regrouped c.negate.new.self xs (term_words s) (term_words (negative t)) (c.negate.ensures (xs ++ term_words s) (term_words t) ends (ungrouped c.args.self.now xs (term_words s) (term_words t) held)))

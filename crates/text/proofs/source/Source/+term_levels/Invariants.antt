@@ -9,17 +9,17 @@ use Rattle.text.proofs.source.Source.+term_levels.Given as goal
 
 abbrev pub invariant-times-loop-turn : goal.invariant-times-loop-turn
 invariant-times-loop-turn l =
-    (xs : List ℤ) (t : Term) → Behind xs l.from → Holds l.initial.sheet (xs ++ term_words t) →
-    (s : Term) × (run (times l.self.names.now (nest l.self.names.now l.depth) t) l.self.text.now l.initial.at ≡
-    run (times_for (65536 - l._turn) l.self.names.now (nest l.self.names.now l.depth) s) l.self.text.now l.at) ×
-    Holds l.sheet (xs ++ term_words s)
+    (xs : List ℤ) (t : Term) → Behind xs l.from → Holds l.initial.draft.sheet (xs ++ term_words t) →
+    (s : Term) × (run (times l.self.names.now (nest l.self.names.now l.depth) t) l.self.text.now l.initial.draft.at ≡
+    run (times_for (65536 - l._turn) l.self.names.now (nest l.self.names.now l.depth) s) l.self.text.now l.draft.at) ×
+    Holds l.draft.sheet (xs ++ term_words s)
 
 abbrev pub invariant-plus-loop-turn : goal.invariant-plus-loop-turn
 invariant-plus-loop-turn l =
-    (xs : List ℤ) (t : Term) → Behind xs l.from → Holds l.initial.sheet (xs ++ term_words t) →
-    (s : Term) × (run (plus l.self.names.now (nest l.self.names.now l.depth) l.may_arrow t) l.self.text.now l.initial.at ≡
-    run (plus_for (65536 - l._turn) l.self.names.now (nest l.self.names.now l.depth) l.may_arrow (record { term = s; arrow = false })) l.self.text.now l.at) ×
-    Holds l.sheet (xs ++ term_words s)
+    (xs : List ℤ) (t : Term) → Behind xs l.from → Holds l.initial.draft.sheet (xs ++ term_words t) →
+    (s : Term) × (run (plus l.self.names.now (nest l.self.names.now l.depth) l.may_arrow t) l.self.text.now l.initial.draft.at ≡
+    run (plus_for (65536 - l._turn) l.self.names.now (nest l.self.names.now l.depth) l.may_arrow (record { term = s; arrow = false })) l.self.text.now l.draft.at) ×
+    Holds l.draft.sheet (xs ++ term_words s)
 
 abbrev pub decreases-group : goal.decreases-group
 decreases-group l = l.depth * 10 + 0

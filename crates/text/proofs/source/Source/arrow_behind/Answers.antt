@@ -4,10 +4,10 @@ use Rattle.grammar.specs.Formulas.{arrow_behind}
 use Rattle.grammar.specs.Reader.{run}
 use Rattle.text.proofs.source.Source.arrow_behind.Goals as goal
 
-pub returns-then-arrow : goal.returns-then-arrow
+pub returns-then-claim : goal.returns-then-claim
 unfolding arrow_behind run
-returns-then-arrow c = ap (λ b. run (arrow_behind b) c.args.self.now.text.now c.args.at.now) c.if-arrow.true
+returns-then-claim c = ap (λ b. run (arrow_behind b) c.args.self.now.text.now c.args.at.now) c.if-claim.true
 
 pub returns : goal.returns
 unfolding arrow_behind run
-returns c = ap (λ b. run (arrow_behind b) c.args.self.now.text.now c.args.at.now) c.if-arrow.false ∙ c.sign.ensures
+returns c = ap (λ b. run (arrow_behind b) c.args.self.now.text.now c.args.at.now) c.if-claim.false ∙ c.sign.ensures

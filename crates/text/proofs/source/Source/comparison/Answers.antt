@@ -28,5 +28,5 @@ returns c xs t begins held =
     let s = c.in_ok-arrow.ensures (xs ++ term_words t) held in (
       OfClaim (record { formula = compared c.in_ok-relation.relation t s.0.term; arrow = s.0.arrow }),
       chose _ _ _ _ _ (ap begins_relation (sym c.front.ensures) ∙ sym c.if-not-begins_relation.ensures) ∙ goes_on _ _ _ _ _ _ c.in_ok-relation.ensures ∙ goes_on _ _ _ _ _ _ s.1,
-      (s.2.0, c.compare.ensures xs t s.0.term begins held.counted (regrouped c.sum.new.sheet xs (term_words t) (term_words s.0.term) s.2.1)),
+      (s.2.0, c.compare.ensures xs t s.0.term begins held.counted (regrouped _ xs _ _ s.2.1)),
     )

@@ -20,7 +20,7 @@ pub returns-in_default : goal.returns-in_default
 unfolding named variable run
 returns-in_default c xs held =
     stops _ _ _ _ _ (passed_over _ _ _ _ _ (sym c.if-is_reserved.ensures) ∙
-    ap (λ o. run (elim o [ None ↦ Refuse (Wrong c.args.word.length) | Some i ↦ blanks >> Give i ]) c.args.self.now.text.now c.args.at.now) (sym c.in_default.ensures.value))
+    ap (λ o. run (elim o [ None ↦ Refuse (Wrong c.args.word.length) | Some i ↦ blanks >> Give i ]) c.args.self.now.text.now c.args.draft.now.at) (sym c.in_default.ensures.value))
 
 pub overflow_cast-i : goal.overflow_cast-i
 overflow_cast-i c = search rules
@@ -30,9 +30,9 @@ unfolding named variable run term_words
 returns c xs held = (
   Var c.in-Some.i,
   goes_on _ _ _ _ _ _ (passed_over _ _ _ _ _ (sym c.if-is_reserved.ensures) ∙
-      ap (λ o. run (elim o [ None ↦ Refuse (Wrong c.args.word.length) | Some i ↦ blanks >> Give i ]) c.args.self.now.text.now c.args.at.now) (sym c.in-Some.ensures.value) ∙
+      ap (λ o. run (elim o [ None ↦ Refuse (Wrong c.args.word.length) | Some i ↦ blanks >> Give i ]) c.args.self.now.text.now c.args.draft.now.at) (sym c.in-Some.ensures.value) ∙
       goes_on _ _ _ _ _ _ c.blanks.ensures),
   let fits : SFits w64 (pos c.in-Some.i) = search rules in
-      regrouped c.put-2.new.self xs (pos 6 ∷ []) (pos c.in-Some.i ∷ [])
-      (same_words c.put-2.new.self _ _ (ap (λ u. (xs ++ (pos 6 ∷ [])) ++ (u ∷ [])) (to_z-of_z w64 (pos c.in-Some.i) fits)) (c.put-2.ensures (xs ++ (pos 6 ∷ [])) (c.put.ensures xs held))),
+      regrouped _ xs _ _
+      (same_words _ _ _ (ap (λ u. (xs ++ (pos 6 ∷ [])) ++ (u ∷ [])) (to_z-of_z w64 (pos c.in-Some.i) fits)) (c.put.ensures (xs ++ (pos 6 ∷ [])) (c.put_kind.ensures xs held))),
 )

@@ -1,25 +1,29 @@
 -- By its first letter.
-use Rattle.std.proofs.Common.{sym, ◌∙◌}
-use Rattle.std.proofs.lemmas.Bool.{eq-eqb, ne_eqb}
+use Rattle.std.proofs.Common.{sym, ap, ◌∙◌, arith}
+use Rattle.std.proofs.lemmas.Bool.{ne_eqb}
 use Rattle.grammar.specs.Reader.{run}
 use Rattle.grammar.specs.Text.{quantifier_of}
 use Rattle.grammar.proofs.Runs.{goes_on, stops}
 use Rattle.text.proofs.Exits.{handed_on_lem}
-use Rattle.text.proofs.Steps.{chose, passed_over}
+use Rattle.text.proofs.Steps.{passed_over}
 use Rattle.text.proofs.source.Source.quantifier.Goals as goal
 
-pub returns-in_err-keyword : goal.returns-in_err-keyword
+pub returns-in_err-keyword-in-101 : goal.returns-in_err-keyword-in-101
 unfolding quantifier_of
-returns-in_err-keyword c = chose _ _ _ _ _ (eq-eqb _ 101 (sym c.front.ensures ∙ c.if-front-eq101.true)) ∙ stops _ _ _ _ _ c.in_err-keyword.ensures ∙ handed_on_lem c.from_residual.result _ _ c.from_residual.ensures.1
+returns-in_err-keyword-in-101 c =
+    ap (λ d. run (quantifier_of d) c.args.self.now.text.now c.args.at.now) (sym c.front.ensures ∙ c.in-101.is) ∙ stops _ _ _ _ _ c.in_err-keyword-in-101.ensures ∙ handed_on_lem c.from_residual.result _ _ c.from_residual.ensures.1
 
-pub returns-then-front-eq101 : goal.returns-then-front-eq101
+pub returns-in_ok-keyword-in-101 : goal.returns-in_ok-keyword-in-101
 unfolding quantifier_of run
-returns-then-front-eq101 c = chose _ _ _ _ _ (eq-eqb _ 101 (sym c.front.ensures ∙ c.if-front-eq101.true)) ∙ goes_on _ _ _ _ _ _ c.in_ok-keyword.ensures
+returns-in_ok-keyword-in-101 c = ap (λ d. run (quantifier_of d) c.args.self.now.text.now c.args.at.now) (sym c.front.ensures ∙ c.in-101.is) ∙ goes_on _ _ _ _ _ _ c.in_ok-keyword-in-101.ensures
 
-pub returns-in_err-keyword-2 : goal.returns-in_err-keyword-2
+pub returns-in_err-keyword-in_default : goal.returns-in_err-keyword-in_default
 unfolding quantifier_of
-returns-in_err-keyword-2 c = passed_over _ _ _ _ _ (ne_eqb _ 101 (λ e. c.if-front-eq101.false (c.front.ensures ∙ e))) ∙ stops _ _ _ _ _ c.in_err-keyword-2.ensures ∙ handed_on_lem c.from_residual-in_err-keyword-2.result _ _ c.from_residual-in_err-keyword-2.ensures.1
+returns-in_err-keyword-in_default c =
+    ap (λ d. run (quantifier_of d) c.args.self.now.text.now c.args.at.now) (sym c.front.ensures) ∙ passed_over _ _ _ _ _ (ne_eqb c.front.result 101 (λ e. omega (arith, e))) ∙
+    stops _ _ _ _ _ c.in_err-keyword-in_default.ensures ∙ handed_on_lem c.from_residual-in_err-keyword-in_default.result _ _ c.from_residual-in_err-keyword-in_default.ensures.1
 
-pub returns : goal.returns
+pub returns-in_ok-keyword-in_default : goal.returns-in_ok-keyword-in_default
 unfolding quantifier_of run
-returns c = passed_over _ _ _ _ _ (ne_eqb _ 101 (λ e. c.if-front-eq101.false (c.front.ensures ∙ e))) ∙ goes_on _ _ _ _ _ _ c.in_ok-keyword-2.ensures
+returns-in_ok-keyword-in_default c =
+    ap (λ d. run (quantifier_of d) c.args.self.now.text.now c.args.at.now) (sym c.front.ensures) ∙ passed_over _ _ _ _ _ (ne_eqb c.front.result 101 (λ e. omega (arith, e))) ∙ goes_on _ _ _ _ _ _ c.in_ok-keyword-in_default.ensures

@@ -1,9 +1,9 @@
 -- `^` with a digit raises the term in front of it.
-use Rattle.std.proofs.Common.{◌≡◌, ◌-◌, true, false, ◌&&◌, leb, sym, ap, ◌∙◌, ap₂, inl, inr}
-use Rattle.std.proofs.lemmas.Bool.{eq-eqb, ne_eqb, le-leb, lt-leb, and_from, and_left, and_right}
+use Rattle.std.proofs.Common.{◌-◌, sym, ap, ◌∙◌, ap₂}
+use Rattle.std.proofs.lemmas.Bool.{eq-eqb, ne_eqb}
 use Rattle.grammar.specs.Meaning.{power}
 use Rattle.grammar.specs.Reader.{run, Give, ◌>>◌}
-use Rattle.grammar.specs.Terms.{raised}
+use Rattle.grammar.specs.Terms.{is_exponent, raised}
 use Rattle.grammar.specs.Tokens.{blanks}
 use Rattle.grammar.proofs.Runs.{goes_on, stops}
 use Rattle.text.proofs.Steps.{refused_by, chose, passed_over}
@@ -19,22 +19,18 @@ unfolding raised run
 returns-in_err-sign c xs t begins held =
     refused_by _ _ c.from_residual.result _ _ (chose _ _ _ _ _ (eq-eqb _ 94 (sym c.front.ensures ∙ c.if-front-ne94.false)) ∙ stops _ _ _ _ _ c.in_err-sign.ensures) c.from_residual.ensures.1
 
-pub returns-then-digit-lt49 : goal.returns-then-digit-lt49
+pub returns-then-not-is_exponent : goal.returns-then-not-is_exponent
 unfolding raised run
-returns-then-digit-lt49 c xs t begins held =
-    let no_power : (leb 49 c.front-digit.result && leb c.front-digit.result 56) ≡ false =
-    elim c.then-digit-lt49.either [ inl h ↦ and_left _ _ (lt-leb 49 c.front-digit.result h) | inr h ↦ and_right _ _ (lt-leb c.front-digit.result 56 h.1) ] in
+returns-then-not-is_exponent c xs t begins held =
     chose _ _ _ _ _ (eq-eqb _ 94 (sym c.front.ensures ∙ c.if-front-ne94.false)) ∙ goes_on _ _ _ _ _ _ c.in_ok-sign.ensures ∙
-    passed_over _ _ _ _ _ (ap (λ d. leb 49 d && leb d 56) (sym c.front-digit.ensures) ∙ no_power)
+    passed_over _ _ _ _ _ (ap is_exponent (sym c.front-digit.ensures) ∙ sym c.if-not-is_exponent.ensures)
 
 pub returns : goal.returns
 unfolding raised run
-returns c xs t begins held =
-    let power-here : (leb 49 c.front-digit.result && leb c.front-digit.result 56) ≡ true =
-    and_from _ _ (le-leb 49 c.front-digit.result c.if-digit-lt49.false) (le-leb c.front-digit.result 56 c.if-digit-gt56.false) in (
-      power t (c.front-digit.result - 48),
-      chose _ _ _ _ _ (eq-eqb _ 94 (sym c.front.ensures ∙ c.if-front-ne94.false)) ∙ goes_on _ _ _ _ _ _ c.in_ok-sign.ensures ∙
-          chose _ _ _ _ _ (ap (λ d. leb 49 d && leb d 56) (sym c.front-digit.ensures) ∙ power-here) ∙
-          ap₂ (λ d n. run (blanks >> Give (power t (d - 48))) c.args.self.now.text.now n) (sym c.front-digit.ensures) (sym c.pass.ensures) ∙ goes_on _ _ _ _ _ _ c.blanks.ensures,
-      c.raise.ensures xs t begins held,
-    )
+returns c xs t begins held = (
+  power t (c.front-digit.result - 48),
+  chose _ _ _ _ _ (eq-eqb _ 94 (sym c.front.ensures ∙ c.if-front-ne94.false)) ∙ goes_on _ _ _ _ _ _ c.in_ok-sign.ensures ∙
+      chose _ _ _ _ _ (ap is_exponent (sym c.front-digit.ensures) ∙ sym c.if-not-is_exponent.ensures) ∙
+      ap₂ (λ d n. run (blanks >> Give (power t (d - 48))) c.args.self.now.text.now n) (sym c.front-digit.ensures) (sym c.pass.ensures) ∙ goes_on _ _ _ _ _ _ c.blanks.ensures,
+  c.raise.ensures xs t begins held,
+)

@@ -1,34 +1,38 @@
 -- By the first sign.
-use Rattle.std.proofs.Common.{sym, ap, ◌∙◌}
-use Rattle.std.proofs.lemmas.Bool.{eq-eqb, ne_eqb}
+use Rattle.std.proofs.Common.{sym, ap, ◌∙◌, arith}
+use Rattle.std.proofs.lemmas.Bool.{ne_eqb}
 use Rattle.grammar.specs.Formulas.{relation_of, or_equal}
 use Rattle.grammar.specs.Reader.{run}
 use Rattle.grammar.proofs.Runs.{goes_on, stops}
 use Rattle.text.proofs.Exits.{handed_on_lem}
-use Rattle.text.proofs.Steps.{chose, passed_over}
+use Rattle.text.proofs.Steps.{passed_over}
 use Rattle.grammar.specs.declared.relation.Relation.TheVariants.{Below, AtMost, Above, AtLeast}
 use Rattle.text.proofs.source.Source.relation.Goals as goal
 
-pub returns-then-c-eq60 : goal.returns-then-c-eq60
+pub returns-in-60 : goal.returns-in-60
 unfolding relation_of run
-returns-then-c-eq60 c = chose _ _ _ _ _ (eq-eqb _ 60 (sym c.front-c.ensures ∙ c.if-c-eq60.true)) ∙ ap (λ n. run (or_equal Below AtMost) c.args.self.now.text.now n) (sym c.pass.ensures) ∙ c.or_equal.ensures
+returns-in-60 c = ap (λ d. run (relation_of d) c.args.self.now.text.now c.args.at.now) (sym c.front.ensures ∙ c.in-60.is) ∙ ap (λ n. run (or_equal Below AtMost) c.args.self.now.text.now n) (sym c.pass.ensures) ∙ c.or_equal.ensures
 
-pub returns-then-c-eq62 : goal.returns-then-c-eq62
+pub returns-in-62 : goal.returns-in-62
 unfolding relation_of run
-returns-then-c-eq62 c = passed_over _ _ _ _ _ (ne_eqb _ 60 (λ e. c.if-c-eq60.false (c.front-c.ensures ∙ e))) ∙ chose _ _ _ _ _ (eq-eqb _ 62 (sym c.front-c.ensures ∙ c.if-c-eq62.true)) ∙ ap (λ n. run (or_equal Above AtLeast) c.args.self.now.text.now n) (sym c.pass-then-c-eq62.ensures) ∙ c.or_equal-then-c-eq62.ensures
+returns-in-62 c = ap (λ d. run (relation_of d) c.args.self.now.text.now c.args.at.now) (sym c.front.ensures ∙ c.in-62.is) ∙ ap (λ n. run (or_equal Above AtLeast) c.args.self.now.text.now n) (sym c.pass-in-62.ensures) ∙ c.or_equal-in-62.ensures
 
-pub returns-in_err-sign : goal.returns-in_err-sign
+pub returns-in_err-sign-in-61 : goal.returns-in_err-sign-in-61
 unfolding relation_of
-returns-in_err-sign c = passed_over _ _ _ _ _ (ne_eqb _ 60 (λ e. c.if-c-eq60.false (c.front-c.ensures ∙ e))) ∙ passed_over _ _ _ _ _ (ne_eqb _ 62 (λ e. c.if-c-eq62.false (c.front-c.ensures ∙ e))) ∙ chose _ _ _ _ _ (eq-eqb _ 61 (sym c.front-c.ensures ∙ c.if-c-eq61.true)) ∙ stops _ _ _ _ _ c.in_err-sign.ensures ∙ handed_on_lem c.from_residual.result _ _ c.from_residual.ensures.1
+returns-in_err-sign-in-61 c = ap (λ d. run (relation_of d) c.args.self.now.text.now c.args.at.now) (sym c.front.ensures ∙ c.in-61.is) ∙ stops _ _ _ _ _ c.in_err-sign-in-61.ensures ∙ handed_on_lem c.from_residual.result _ _ c.from_residual.ensures.1
 
-pub returns-then-c-eq61 : goal.returns-then-c-eq61
+pub returns-in_ok-sign-in-61 : goal.returns-in_ok-sign-in-61
 unfolding relation_of run
-returns-then-c-eq61 c = passed_over _ _ _ _ _ (ne_eqb _ 60 (λ e. c.if-c-eq60.false (c.front-c.ensures ∙ e))) ∙ passed_over _ _ _ _ _ (ne_eqb _ 62 (λ e. c.if-c-eq62.false (c.front-c.ensures ∙ e))) ∙ chose _ _ _ _ _ (eq-eqb _ 61 (sym c.front-c.ensures ∙ c.if-c-eq61.true)) ∙ goes_on _ _ _ _ _ _ c.in_ok-sign.ensures
+returns-in_ok-sign-in-61 c = ap (λ d. run (relation_of d) c.args.self.now.text.now c.args.at.now) (sym c.front.ensures ∙ c.in-61.is) ∙ goes_on _ _ _ _ _ _ c.in_ok-sign-in-61.ensures
 
-pub returns-in_err-sign-2 : goal.returns-in_err-sign-2
+pub returns-in_err-sign-in_default : goal.returns-in_err-sign-in_default
 unfolding relation_of
-returns-in_err-sign-2 c = passed_over _ _ _ _ _ (ne_eqb _ 60 (λ e. c.if-c-eq60.false (c.front-c.ensures ∙ e))) ∙ passed_over _ _ _ _ _ (ne_eqb _ 62 (λ e. c.if-c-eq62.false (c.front-c.ensures ∙ e))) ∙ passed_over _ _ _ _ _ (ne_eqb _ 61 (λ e. c.if-c-eq61.false (c.front-c.ensures ∙ e))) ∙ stops _ _ _ _ _ c.in_err-sign-2.ensures ∙ handed_on_lem c.from_residual-in_err-sign-2.result _ _ c.from_residual-in_err-sign-2.ensures.1
+returns-in_err-sign-in_default c =
+    ap (λ d. run (relation_of d) c.args.self.now.text.now c.args.at.now) (sym c.front.ensures) ∙ passed_over _ _ _ _ _ (ne_eqb c.front.result 60 (λ e. omega (arith, e))) ∙ passed_over _ _ _ _ _ (ne_eqb c.front.result 62 (λ e. omega (arith, e))) ∙ passed_over _ _ _ _ _ (ne_eqb c.front.result 61 (λ e. omega (arith, e))) ∙
+    stops _ _ _ _ _ c.in_err-sign-in_default.ensures ∙ handed_on_lem c.from_residual-in_err-sign-in_default.result _ _ c.from_residual-in_err-sign-in_default.ensures.1
 
-pub returns : goal.returns
+pub returns-in_ok-sign-in_default : goal.returns-in_ok-sign-in_default
 unfolding relation_of run
-returns c = passed_over _ _ _ _ _ (ne_eqb _ 60 (λ e. c.if-c-eq60.false (c.front-c.ensures ∙ e))) ∙ passed_over _ _ _ _ _ (ne_eqb _ 62 (λ e. c.if-c-eq62.false (c.front-c.ensures ∙ e))) ∙ passed_over _ _ _ _ _ (ne_eqb _ 61 (λ e. c.if-c-eq61.false (c.front-c.ensures ∙ e))) ∙ goes_on _ _ _ _ _ _ c.in_ok-sign-2.ensures
+returns-in_ok-sign-in_default c =
+    ap (λ d. run (relation_of d) c.args.self.now.text.now c.args.at.now) (sym c.front.ensures) ∙ passed_over _ _ _ _ _ (ne_eqb c.front.result 60 (λ e. omega (arith, e))) ∙ passed_over _ _ _ _ _ (ne_eqb c.front.result 62 (λ e. omega (arith, e))) ∙ passed_over _ _ _ _ _ (ne_eqb c.front.result 61 (λ e. omega (arith, e))) ∙
+    goes_on _ _ _ _ _ _ c.in_ok-sign-in_default.ensures

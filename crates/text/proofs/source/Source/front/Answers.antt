@@ -1,7 +1,0 @@
--- Behind the end nothing stands.
-use Rattle.std.proofs.Common.{sym}
-use Rattle.std.proofs.lemmas.List.{get_or_past}
-use Rattle.text.proofs.source.Source.front.Goals as goal
-
-pub returns-else-at-self : goal.returns-else-at-self
-returns-else-at-self c = sym (get_or_past c.args.self.now.text.now c.args.at 0 c.if-at-self.false)
