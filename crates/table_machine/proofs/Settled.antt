@@ -23,7 +23,7 @@ use Rattle.stacks.specs.Spelt.{spelt}
 use Rattle.stacks.specs.Memories.{Cells, AllHold, poly_of, front_poly, left_from, left_with, marks_from}
 use Rattle.stacks.proofs.Holding.{slot_laws}
 use Rattle.table_machine.specs.Told.{front_terms}
-use Rattle.table_machine.specs.Settling.{Settles, next_marks, shorter_marks, left_count, is_zero_sign}
+use Rattle.table_machine.specs.Settling.{Settles, next_marks, shorter_marks, left_count}
 use Rattle.table_machine.specs.Moving.{PassesZero}
 use Rattle.table_machine.proofs.Telling.{front-denotes}
 
@@ -56,9 +56,9 @@ shorter-poly n slots i count h =
     slot_laws.spelt_is (suc n) (prefix_terms n (front_terms slots i count)) (without_leading (front_poly n slots i count))
     (denoting_laws.without_leading_denotes n (front_terms slots i count) (front_poly n slots i count) (front-denotes n slots i count h))
 
-pub settles_zero : (n : ℕ) (c : Cells) (m : Marks) (s : Sign) (r : Marks) → AllHold n c.slots → is_zero_sign s ≡ true → r ≡ shorter_marks n c.slots m → Settles n c m s c.lefts r
-settles_zero n c m Neg r h z e = let y : ◌≡◌ {A = ℕ} 0 1 = cc in absurd (omega arith)
-settles_zero n c m Pos r h z e = let y : ◌≡◌ {A = ℕ} 0 1 = cc in absurd (omega arith)
+pub settles_zero : (n : ℕ) (c : Cells) (m : Marks) (s : Sign) (r : Marks) → AllHold n c.slots → s ≡ Zero → r ≡ shorter_marks n c.slots m → Settles n c m s c.lefts r
+settles_zero n c m Neg r h z e = absurd (cc)
+settles_zero n c m Pos r h z e = absurd (cc)
 settles_zero n c m Zero r h z e =
     let looks = less_one-is m.looks in
     let current = shorter-poly n c.slots (m.base + m.done) m.count h in
@@ -85,7 +85,7 @@ left_settled n slots i count s h =
     by zero false e = let z = no_terms n slots i in cc
     by (suc k) false e = refl
 
-pub settles-passed : (n : ℕ) (c : Cells) (m : Marks) (s : Sign) (left : Left) (lefts : List ℤ) (r : Marks) → AllHold n c.slots → is_zero_sign s ≡ false →
+pub settles-passed : (n : ℕ) (c : Cells) (m : Marks) (s : Sign) (left : Left) (lefts : List ℤ) (r : Marks) → AllHold n c.slots → (s ≡ Zero → ⊥) →
     left ≡ record { count = left_count n c.slots m; sign = s } → Written left_in (m.base + m.done) left c.lefts lefts → r ≡ next_marks c.slots m → Settles n c m s lefts r
 settles-passed n c m s left lefts r h z e w q = by s z e
   where
@@ -107,10 +107,10 @@ settles-passed n c m s left lefts r h z e w q = by s z e
         left_from n c.slots (m.base + m.done) (left_in lefts (m.base + m.done)) ≡ left_of (front_poly n c.slots (m.base + m.done) m.count) s
     here s e = ap (left_from n c.slots (m.base + m.done)) (w.there ∙ e) ∙ left_settled n c.slots (m.base + m.done) m.count s h
 
-    by : (s : Sign) → is_zero_sign s ≡ false → left ≡ record { count = left_count n c.slots m; sign = s } → Settles n c m s lefts r
+    by : (s : Sign) → (s ≡ Zero → ⊥) → left ≡ record { count = left_count n c.slots m; sign = s } → Settles n c m s lefts r
     by Neg z e = record { next = poly_of n (slot_in c.slots (m.base + suc m.done)); marks = marks; written = λ trees facts questions. (here Neg e, λ l. refl); kept = w.under }
     by Pos z e = record { next = poly_of n (slot_in c.slots (m.base + suc m.done)); marks = marks; written = λ trees facts questions. (here Pos e, λ l. refl); kept = w.under }
-    by Zero z e = let y : ◌≡◌ {A = ℕ} 0 1 = cc in absurd (omega arith)
+    by Zero z e = absurd (z refl)
 
 -- the next polynomial, whole
 pub next_marks_lem : (n : ℕ) (slots : List ℤ) (m r : Marks) → r ≡ next_marks slots m → marks_from n slots r ≡ passed (poly_of n (slot_in slots (m.base + (m.done + 1)))) (marks_from n slots m)

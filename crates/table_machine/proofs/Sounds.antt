@@ -7,8 +7,8 @@ use Rattle.question.specs.declared.tree.Tree.{Tree}
 use Rattle.stacks.specs.declared.marks.Marks.{Marks}
 use Rattle.stacks.specs.Values.{question_in}
 use Rattle.stacks.specs.Memories.{Cells, marks_from, memory_of}
-use Rattle.table_machine.specs.declared.arrays.Facing.{Facing}
-use Rattle.table_machine.specs.Settling.{Fitting}
+use Rattle.table_machine.specs.declared.facing.Facing.{Facing}
+use Rattle.table_machine.specs.Fitting.{Fitting}
 use Rattle.table_machine.specs.Moving.{facing, Room, Askable}
 use Rattle.table_machine.specs.SoundLaws.{Enough, SoundLaws}
 
@@ -33,7 +33,7 @@ holding_asks n trees c t k e l s =
 pub sound_laws : SoundLaws
 sound_laws =
     record {
-      facing_fits = λ n trees c f s. fitting n trees c f.marks f.pending s.0;
+      facing_fits = λ n trees c m pending s. fitting n trees c m pending s.0;
       facing_room = facing_room;
       holding_asks = λ n trees c t pending e l h s.
           let j : pending ≡ suc (pending - 1) = omega arith in

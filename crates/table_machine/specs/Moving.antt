@@ -20,9 +20,10 @@ use Rattle.stacks.specs.Written.{Written}
 use Rattle.stacks.specs.Values.{left_in, fact_in, question_in}
 use Rattle.stacks.specs.Memories.{Cells, front_poly, left_from, fact_from, marks_from, memory_of, poly_of}
 use Rattle.stacks.specs.Slots.{slot_in}
-use Rattle.table_machine.specs.declared.arrays.Facing.{Facing}
+use Rattle.table_machine.specs.declared.facing.Facing.{Facing}
 use Rattle.table_machine.specs.Cells.{rewritten}
-use Rattle.table_machine.specs.Settling.{Fitting, Settles}
+use Rattle.table_machine.specs.Fitting.{Fitting}
+use Rattle.table_machine.specs.Settling.{Settles}
 
 -- the current polynomial
 abbrev pub current_poly : ℕ → List ℤ → Marks → Poly

@@ -14,18 +14,6 @@ use Rattle.stacks.specs.Memories.{Cells, marks_from, memory_of}
 use Rattle.table_machine.specs.Told.{front_terms}
 use Rattle.table_machine.specs.Cells.{rewritten}
 
-abbrev pub is_zero_sign : Sign → Bool
-is_zero_sign Neg = false
-is_zero_sign Zero = true
-is_zero_sign Pos = false
-
--- the bounds of marks
-pub record Fitting (m : Marks) : Type 0 where
-  pub looks_bound : m.done + m.looks ≤ 63
-  pub size_bound : m.done + m.ahead ≤ 64
-  pub base_bound : m.base ≤ 63 * m.frames
-  pub depth_bound : m.frames ≤ 39
-
 abbrev pub next_marks : List ℤ → Marks → Marks
 next_marks slots m = record
     { looks = m.looks - 1; base = m.base; done = m.done + 1; ahead = m.ahead - 1; count = length (slot_in slots (m.base + (m.done + 1))); facts = m.facts; frames = m.frames }
