@@ -5,6 +5,7 @@ ghost use Rattle.table_machine.specs.Derived.{derives};
 ghost use Rattle.table_machine.specs.Loading.{loaded};
 
 use arena::arena::{Arena, Full};
+use packed::variables::Variables;
 use stacks::slots::{front_at, put_polynomial, view_at};
 use storage::pack::{TooBig, pack};
 use storage::span::Span;
@@ -13,17 +14,17 @@ use wide::scratch::Scratch;
 // The derivative of the first monomials in a slot, stored in another slot if it is modest. The arena is only worked in.
 pub fn put_derivative(
     slots: &mut [i64],
-    others: u32,
+    others: Variables,
     slot: u16,
     count: u16,
     to: u16,
     scratch: &mut Scratch,
     arena: &mut Arena,
 ) -> Result<(), TooBig>
-    requires few { others < 4 }
-    requires hold { AllHold others slots.old }
+    requires few { others.count < 4 }
+    requires hold { AllHold others.count slots.old }
     requires room { (65 * to + 65 ≤ length slots.old) × (arena.old.top + 64 ≤ length arena.old.cells.now) }
-    ensures derives { derives result others slots.old slot count to slots.new }
+    ensures derives { derives result others.count slots.old slot count to slots.new }
     ensures arena { (arena.new.top ≡ arena.old.top) × (take arena.new.top arena.new.cells.now ≡ take arena.old.top arena.old.cells.now) }
 {
     let mark = arena.top();
@@ -41,12 +42,12 @@ pub fn put_derivative(
 // The first monomials in a slot, copied to the arena's top; refused where there is no room.
 pub fn load(
     slots: &[i64],
-    others: u32,
+    others: Variables,
     slot: u16,
     count: u16,
     arena: &mut Arena,
 ) -> Result<Span, Full>
-    requires { AllHold others slots.now }
+    requires { AllHold others.count slots.now }
     ensures { loaded result slots.now slot count arena.old.top arena.old.cells.now arena.new.top arena.new.cells.now }
 {
     let from = arena.top();

@@ -13,25 +13,26 @@ ghost use Rattle.table_machine.specs.Told.{known_of, told_by, front_terms, leadi
 use crate::equality::same_signed;
 use field::sign::Sign;
 use packed::stretch::Stretch;
+use packed::variables::Variables;
 use stacks::arrays::fact_at;
 use stacks::cells::sign_of;
 use stacks::marks::Fact;
 use stacks::slots::view_at;
 
 // The leading coefficient of the first monomials of the polynomial in a slot.
-fn leading_at(slots: &[i64], others: u32, slot: u16, count: u16) -> Stretch
-    requires few { others < 4 }
-    requires hold { AllHold others slots.now }
-    ensures { stretch_terms result ≡ leading_front others slots.now slot count }
+fn leading_at(slots: &[i64], others: Variables, slot: u16, count: u16) -> Stretch
+    requires few { others.count < 4 }
+    requires hold { AllHold others.count slots.now }
+    ensures { stretch_terms result ≡ leading_front others.count slots.now slot count }
 {
     Stretch::leading(view_at(slots, slot, count), others)
 }
 
 // The sign that a fact gives to a leading coefficient, if it is about that or its negative.
-fn told(slots: &[i64], leading: Stretch, fact: Fact, others: u32) -> Option<Sign>
-    requires few { others < 4 }
-    requires hold { AllHold others slots.now }
-    ensures { known_of result ≡ told_by (same_terms (stretch_terms leading.entry) (leading_front others slots.now fact.slot fact.count)) (same_terms (neg_terms (stretch_terms leading.entry)) (leading_front others slots.now fact.slot fact.count)) fact.sign }
+fn told(slots: &[i64], leading: Stretch, fact: Fact, others: Variables) -> Option<Sign>
+    requires few { others.count < 4 }
+    requires hold { AllHold others.count slots.now }
+    ensures { known_of result ≡ told_by (same_terms (stretch_terms leading.entry) (leading_front others.count slots.now fact.slot fact.count)) (same_terms (neg_terms (stretch_terms leading.entry)) (leading_front others.count slots.now fact.slot fact.count)) fact.sign }
 {
     let about = leading_at(slots, others, fact.slot, fact.count);
     if same_signed(leading, false, about) {
@@ -57,14 +58,14 @@ fn number_sign(number: Stretch) -> Sign
 fn among_facts(
     slots: &[i64],
     facts: &[i64],
-    others: u32,
+    others: Variables,
     slot: u16,
     count: u16,
     len: u16,
 ) -> Option<Sign>
-    requires few { others < 4 }
-    requires hold { AllHold others slots.now }
-    ensures { known_of result ≡ among others (leading_of others (front_poly others slots.now slot count)) (back (λ i. fact_from others slots.now (fact_in facts.now i)) len) }
+    requires few { others.count < 4 }
+    requires hold { AllHold others.count slots.now }
+    ensures { known_of result ≡ among others.count (leading_of others.count (front_poly others.count slots.now slot count)) (back (λ i. fact_from others.count slots.now (fact_in facts.now i)) len) }
 {
     let leading = leading_at(slots, others, slot, count);
     let mut i = len;
@@ -83,17 +84,17 @@ fn among_facts(
 pub fn known_sign(
     slots: &[i64],
     facts: &[i64],
-    others: u32,
+    others: Variables,
     slot: u16,
     count: u16,
     len: u16,
 ) -> Option<Sign>
-    requires few { others < 4 }
-    requires hold { AllHold others slots.now }
-    ensures { known_of result ≡ known others (leading_of others (front_poly others slots.now slot count)) (back (λ i. fact_from others slots.now (fact_in facts.now i)) len) }
+    requires few { others.count < 4 }
+    requires hold { AllHold others.count slots.now }
+    ensures { known_of result ≡ known others.count (leading_of others.count (front_poly others.count slots.now slot count)) (back (λ i. fact_from others.count slots.now (fact_in facts.now i)) len) }
 {
     let leading = leading_at(slots, others, slot, count);
-    if others == 0 {
+    if others.count() == 0 {
         return Some(number_sign(leading));
     }
     if leading.len() == 0 {

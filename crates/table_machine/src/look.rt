@@ -12,6 +12,7 @@ ghost use Rattle.table_machine.specs.Moving.{current_poly, current_known, Moves,
 use crate::arrays::{Arrays, Facing};
 use crate::facts::known_sign;
 use field::sign::Sign;
+use packed::variables::Variables;
 use question::tree::Tree;
 use stacks::arrays::{put_fact, put_left, put_question, question_at};
 use stacks::marks::{Branch, Fact, Left, Marks, Question};
@@ -34,20 +35,20 @@ impl Arrays<'_> {
         Facing { marks, pending: 0 }
     }
 
-    fn is_zero(&self, others: u32, marks: Marks) -> bool
-        requires hold { AllHold others self.now.slots.now }
+    fn is_zero(&self, others: Variables, marks: Marks) -> bool
+        requires hold { AllHold others.count self.now.slots.now }
         requires fits { Fitting marks }
-        ensures { result ≡ is_zero (current_poly others self.now.slots.now marks) }
+        ensures { result ≡ is_zero (current_poly others.count self.now.slots.now marks) }
     {
         self.current(others, marks).is_zero()
     }
 
     // What the facts tell of the leading coefficient.
-    fn known(&self, others: u32, marks: Marks) -> Option<Sign>
-        requires few { others < 4 }
-        requires hold { AllHold others self.now.slots.now }
+    fn known(&self, others: Variables, marks: Marks) -> Option<Sign>
+        requires few { others.count < 4 }
+        requires hold { AllHold others.count self.now.slots.now }
         requires fits { Fitting marks }
-        ensures { known_of result ≡ current_known others self.now.slots.now self.now.facts.now marks }
+        ensures { known_of result ≡ current_known others.count self.now.slots.now self.now.facts.now marks }
     {
         known_sign(
             self.slots,
@@ -60,11 +61,11 @@ impl Arrays<'_> {
     }
 
     // The current polynomial is zero everywhere.
-    fn pass_zero(&mut self, others: u32, marks: Marks) -> Marks
+    fn pass_zero(&mut self, others: Variables, marks: Marks) -> Marks
         requires fits { Fitting marks }
         requires some { (0 < marks.looks) × (0 < marks.ahead) }
         requires room { 2 * 2521 ≤ length self.old.lefts.now }
-        ensures passes { PassesZero others (cells_of self.old) marks self.new.lefts.now result }
+        ensures passes { PassesZero others.count (cells_of self.old) marks self.new.lefts.now result }
         ensures rest { cells_of self.new ≡ rewritten (cells_of self.old) self.new.lefts.now self.old.facts.now self.old.questions.now }
         ensures long { length self.new.lefts.now ≡ length self.old.lefts.now }
     {
@@ -86,13 +87,13 @@ impl Arrays<'_> {
     }
 
     // A branch of a question is explored: what it assumes of the sign becomes a fact.
-    fn explore(&mut self, others: u32, i: u16, question: Question, sign: Sign) -> Marks
-        requires few { others < 4 }
-        requires hold { AllHold others self.old.slots.now }
+    fn explore(&mut self, others: Variables, i: u16, question: Question, sign: Sign) -> Marks
+        requires few { others.count < 4 }
+        requires hold { AllHold others.count self.old.slots.now }
         requires asking { Askable (cells_of self.old) question.marks }
         requires lefts { 2 * 2521 ≤ length self.old.lefts.now }
         requires questions { 10 * i + 10 ≤ length self.old.questions.now }
-        ensures { Explores others (cells_of self.old) question.marks i question.branch sign (cells_of self.new) result }
+        ensures { Explores others.count (cells_of self.old) question.marks i question.branch sign (cells_of self.new) result }
     {
         let marks = question.marks;
         put_question(self.questions, i, question);
@@ -106,14 +107,14 @@ impl Arrays<'_> {
     }
 
     // A question is asked, and its branch above is explored first.
-    fn ask(&mut self, others: u32, at: Facing) -> Facing
-        requires few { others < 4 }
-        requires hold { AllHold others self.old.slots.now }
+    fn ask(&mut self, others: Variables, at: Facing) -> Facing
+        requires few { others.count < 4 }
+        requires hold { AllHold others.count self.old.slots.now }
         requires fits { Fitting at.marks }
         requires some { (0 < at.marks.looks) × (0 < at.marks.ahead) }
         requires room { Room (cells_of self.old) at }
-        requires unknown { (is_zero (current_poly others self.old.slots.now at.marks) ≡ false) × (current_known others self.old.slots.now self.old.facts.now at.marks ≡ Unknown) }
-        ensures looks { Looks others (cells_of self.old) at (cells_of self.new) result }
+        requires unknown { (is_zero (current_poly others.count self.old.slots.now at.marks) ≡ false) × (current_known others.count self.old.slots.now self.old.facts.now at.marks ≡ Unknown) }
+        ensures looks { Looks others.count (cells_of self.old) at (cells_of self.new) result }
         ensures slots { self.new.slots.now ≡ self.old.slots.now }
         ensures long { SameLengths (cells_of self.old) (cells_of self.new) }
     {
@@ -129,14 +130,14 @@ impl Arrays<'_> {
     }
 
     // A branch of the last question is finished, with this tree: the next one is explored, from above to below, if any is left.
-    pub fn next_branch(&mut self, others: u32, tree: Tree, pending: u16) -> Option<Facing>
-        requires few { others < 4 }
-        requires hold { AllHold others self.old.slots.now }
+    pub fn next_branch(&mut self, others: Variables, tree: Tree, pending: u16) -> Option<Facing>
+        requires few { others.count < 4 }
+        requires hold { AllHold others.count self.old.slots.now }
         requires some { 0 < pending }
         requires asking { Askable (cells_of self.old) (question_in self.old.questions.now (pending - 1)).marks }
         requires lefts { 2 * 2521 ≤ length self.old.lefts.now }
         requires questions { 10 * pending ≤ length self.old.questions.now }
-        ensures returns { Returns others (cells_of self.old) tree pending (cells_of self.new) result }
+        ensures returns { Returns others.count (cells_of self.old) tree pending (cells_of self.new) result }
         ensures slots { self.new.slots.now ≡ self.old.slots.now }
         ensures long { SameLengths (cells_of self.old) (cells_of self.new) }
     {
@@ -164,13 +165,13 @@ impl Arrays<'_> {
     }
 
     // At the polynomial that comes first.
-    pub fn look(&mut self, others: u32, at: Facing) -> Facing
-        requires few { others < 4 }
-        requires hold { AllHold others self.old.slots.now }
+    pub fn look(&mut self, others: Variables, at: Facing) -> Facing
+        requires few { others.count < 4 }
+        requires hold { AllHold others.count self.old.slots.now }
         requires fits { Fitting at.marks }
         requires some { (0 < at.marks.looks) × (0 < at.marks.ahead) }
         requires room { Room (cells_of self.old) at }
-        ensures looks { Looks others (cells_of self.old) at (cells_of self.new) result }
+        ensures looks { Looks others.count (cells_of self.old) at (cells_of self.new) result }
         ensures slots { self.new.slots.now ≡ self.old.slots.now }
         ensures long { SameLengths (cells_of self.old) (cells_of self.new) }
     {

@@ -12,6 +12,7 @@ ghost use Rattle.table_machine.specs.Reals.{NextReal, FoundHighest, higher_of, t
 ghost use Rattle.table_machine.specs.Foreseeing.{Foresees};
 
 use crate::arrays::{Arrays, Outlook, Top};
+use packed::variables::Variables;
 use packed::view::View;
 use stacks::arrays::left_at;
 use stacks::marks::{Left, Marks};
@@ -44,12 +45,12 @@ impl Arrays<'_> {
     }
 
     // The degree of a real polynomial of the table.
-    fn degree_at(&self, others: u32, marks: Marks, i: u16) -> u64
-        requires few { others < 4 }
-        requires hold { AllHold others self.now.slots.now }
+    fn degree_at(&self, others: Variables, marks: Marks, i: u16) -> u64
+        requires few { others.count < 4 }
+        requires hold { AllHold others.count self.now.slots.now }
         requires fits { Fitting marks }
         requires real { (i < marks.done) × (0 < (left_in self.now.lefts.now (marks.base + i)).count) }
-        ensures { result ≡ degree (poly_of (table_left others (cells_of self.now) marks i)) }
+        ensures { result ≡ degree (poly_of (table_left others.count (cells_of self.now) marks i)) }
     {
         let slot = marks.base + i;
         self.front(slot, self.left(slot).count, others)
@@ -57,20 +58,20 @@ impl Arrays<'_> {
     }
 
     // The first monomials in a slot.
-    fn front(&self, slot: u16, count: u16, others: u32) -> View
-        requires { AllHold others self.now.slots.now }
+    fn front(&self, slot: u16, count: u16, others: Variables) -> View
+        requires { AllHold others.count self.now.slots.now }
         ensures { terms_in result ≡ front_terms self.now.slots.now slot count }
     {
         view_at(self.slots, slot, count)
     }
 
     // The one of higher degree, the first if they are equal; `count` real polynomials come before the i-th.
-    fn higher(&self, others: u32, marks: Marks, top: Top, i: u16, count: u16) -> Top
-        requires few { others < 4 }
-        requires hold { AllHold others self.now.slots.now }
+    fn higher(&self, others: Variables, marks: Marks, top: Top, i: u16, count: u16) -> Top
+        requires few { others.count < 4 }
+        requires hold { AllHold others.count self.now.slots.now }
         requires fits { Fitting marks }
         requires real { (i < marks.done) × (0 < (left_in self.now.lefts.now (marks.base + i)).count) }
-        ensures { result ≡ higher_of others (cells_of self.now) marks top i count }
+        ensures { result ≡ higher_of others.count (cells_of self.now) marks top i count }
     {
         let degree = self.degree_at(others, marks, i);
         if top.degree < degree {
@@ -84,11 +85,11 @@ impl Arrays<'_> {
     }
 
     // The first of the real polynomials with the highest degree, if any is real.
-    pub fn highest_real(&self, others: u32, marks: Marks) -> Option<Top>
-        requires few { others < 4 }
-        requires hold { AllHold others self.now.slots.now }
+    pub fn highest_real(&self, others: Variables, marks: Marks) -> Option<Top>
+        requires few { others.count < 4 }
+        requires hold { AllHold others.count self.now.slots.now }
         requires fits { Fitting marks }
-        ensures { FoundHighest others (cells_of self.now) marks result }
+        ensures { FoundHighest others.count (cells_of self.now) marks result }
     {
         let first = self.next_real(marks, 0);
         if first >= marks.done {
@@ -112,11 +113,11 @@ impl Arrays<'_> {
 
     // Whether a polynomial is to be looked at, or a real one to be divided in the table below. Otherwise the run that counts is done with this branch:
     // no more may be looked at, none is real, or no table may come below this one.
-    pub fn outlook(&self, others: u32, marks: Marks) -> Outlook
-        requires few { others < 4 }
-        requires hold { AllHold others self.now.slots.now }
+    pub fn outlook(&self, others: Variables, marks: Marks) -> Outlook
+        requires few { others.count < 4 }
+        requires hold { AllHold others.count self.now.slots.now }
         requires fits { Fitting marks }
-        ensures { Foresees others (cells_of self.now) marks result }
+        ensures { Foresees others.count (cells_of self.now) marks result }
     {
         if marks.ahead > 0 {
             if marks.looks > 0 {

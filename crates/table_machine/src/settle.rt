@@ -13,6 +13,7 @@ ghost use Rattle.table_machine.specs.Cells.{cells_of, rewritten};
 
 use crate::arrays::Arrays;
 use field::sign::Sign;
+use packed::variables::Variables;
 use packed::view::View;
 use stacks::arrays::put_left;
 use stacks::marks::{Left, Marks};
@@ -29,8 +30,8 @@ fn is_zero(sign: Sign) -> bool
 
 impl Arrays<'_> {
     // The current polynomial.
-    pub fn current(&self, others: u32, marks: Marks) -> View
-        requires hold { AllHold others self.now.slots.now }
+    pub fn current(&self, others: Variables, marks: Marks) -> View
+        requires hold { AllHold others.count self.now.slots.now }
         requires fits { Fitting marks }
         ensures { terms_in result ≡ front_terms self.now.slots.now (marks.base + marks.done) marks.count }
     {
@@ -55,12 +56,12 @@ impl Arrays<'_> {
     }
 
     // The marks when the current polynomial has lost its leading coefficient.
-    fn shorter(&self, others: u32, marks: Marks) -> Marks
-        requires few { others < 4 }
-        requires hold { AllHold others self.now.slots.now }
+    fn shorter(&self, others: Variables, marks: Marks) -> Marks
+        requires few { others.count < 4 }
+        requires hold { AllHold others.count self.now.slots.now }
         requires fits { Fitting marks }
         requires some { 0 < marks.looks }
-        ensures { result ≡ shorter_marks others self.now.slots.now marks }
+        ensures { result ≡ shorter_marks others.count self.now.slots.now marks }
     {
         let count = self.current(others, marks).without_leading(others).len();
         Marks {
@@ -75,11 +76,11 @@ impl Arrays<'_> {
     }
 
     // What is left of the current polynomial, whose leading coefficient has this sign, not zero.
-    fn left_of(&self, others: u32, marks: Marks, sign: Sign) -> Left
-        requires few { others < 4 }
-        requires hold { AllHold others self.now.slots.now }
+    fn left_of(&self, others: Variables, marks: Marks, sign: Sign) -> Left
+        requires few { others.count < 4 }
+        requires hold { AllHold others.count self.now.slots.now }
         requires fits { Fitting marks }
-        ensures { result ≡ record { count = left_count others self.now.slots.now marks; sign = sign } }
+        ensures { result ≡ record { count = left_count others.count self.now.slots.now marks; sign = sign } }
     {
         if self.current(others, marks).degree(others) == 0 {
             return Left { count: 0, sign };
@@ -91,13 +92,13 @@ impl Arrays<'_> {
     }
 
     // Its leading coefficient is found to have this sign: zero takes it away, another settles the polynomial.
-    pub fn settle(&mut self, others: u32, marks: Marks, sign: Sign) -> Marks
-        requires few { others < 4 }
-        requires hold { AllHold others self.old.slots.now }
+    pub fn settle(&mut self, others: Variables, marks: Marks, sign: Sign) -> Marks
+        requires few { others.count < 4 }
+        requires hold { AllHold others.count self.old.slots.now }
         requires fits { Fitting marks }
         requires some { (0 < marks.looks) × (0 < marks.ahead) }
         requires room { 2 * 2521 ≤ length self.old.lefts.now }
-        ensures settles { Settles others (cells_of self.old) marks sign self.new.lefts.now result }
+        ensures settles { Settles others.count (cells_of self.old) marks sign self.new.lefts.now result }
         ensures rest { cells_of self.new ≡ rewritten (cells_of self.old) self.new.lefts.now self.old.facts.now self.old.questions.now }
         ensures long { length self.new.lefts.now ≡ length self.old.lefts.now }
     {

@@ -8,7 +8,7 @@ use Rattle.table_machine.proofs.Deriving.{derived, not_derived, pushed-part, bel
 use Rattle.table_machine.proofs.below.put_derivative.Goals as goal
 
 pub view_at-requires : goal.view_at-requires
-view_at-requires c = (slot_laws.front_holds c.args.others (slot_in c.args.slots.now c.args.slot) c.args.count (c.requires.hold c.args.slot)).stored
+view_at-requires c = (slot_laws.front_holds c.args.others.count (slot_in c.args.slots.now c.args.slot) c.args.count (c.requires.hold c.args.slot)).stored
 
 pub part-requires : goal.part-requires
 part-requires c =
@@ -35,7 +35,7 @@ returns-in-Ok c =
     let top = c.args.arena.now.top in
     let cells = c.args.arena.now.cells.now in
     let packed = c.pack.new.arena.cells.now in
-    let n = c.args.others in
+    let n = c.args.others.count in
     let back : c.release.new.self.top ≡ top = c.release.ensures.top ∙ c.top-mark.ensures in
     record {
       derives = derived n c.args.slots.now c.args.slot c.args.count c.args.to c.put_polynomial.new.slots ts c.in-Ok.len top cells c.pack.new.arena.top packed
@@ -51,7 +51,7 @@ pub returns-in-Err : goal.returns-in-Err
 returns-in-Err c =
     let p = c.in-Err.ensures.stored in
     let ts = written c.derivative.new.self.front in
-    let n = c.args.others in
+    let n = c.args.others.count in
     record {
       derives = (not_derived n c.args.slots.now c.args.slot c.args.count ts c.requires.few c.requires.hold (c.derivative.ensures.value ∙ ap (derivative_terms n) c.view_at.ensures) p.0, refl);
       arena = (p.1.same_top, ap (λ k. take k c.pack.new.arena.cells.now) p.1.same_top ∙ ap (take c.args.arena.now.top) p.1.same_cells);

@@ -11,9 +11,9 @@ returns c =
       looks = record {
         asked = 1;
         counted = refl;
-        moves = moves-asked c.args.others before c.args.at.marks c.args.at.pending after c.explore-marks.result
+        moves = moves-asked c.args.others.count before c.args.at.marks c.args.at.pending after c.explore-marks.result
             c.requires.some.0 c.requires.some.1 c.requires.unknown.0 c.requires.unknown.1 c.explore-marks.ensures;
       };
-      slots = explored_slots c.args.others before c.args.at.marks c.args.at.pending _ _ after c.explore-marks.result c.explore-marks.ensures;
-      long = explored_long c.args.others before c.args.at.marks c.args.at.pending _ _ after c.explore-marks.result c.explore-marks.ensures;
+      slots = explored_slots c.args.others.count before c.args.at.marks c.args.at.pending _ _ after c.explore-marks.result c.explore-marks.ensures;
+      long = explored_long c.args.others.count before c.args.at.marks c.args.at.pending _ _ after c.explore-marks.result c.explore-marks.ensures;
     }

@@ -9,5 +9,5 @@ pub returns : goal.returns
 returns c =
     let slots = c.args.self.now.slots.now in
     let slot = c.args.marks.base + c.args.i in
-    c.degree.ensures.value ∙ ap (degree_terms c.args.others) (c.front.ensures ∙ ap (λ l. front_terms slots slot l.count) c.left.ensures) ∙
-    degree_is c.args.others (cells_of c.args.self.now) c.args.marks c.args.i c.requires.hold c.requires.real.1
+    c.degree.ensures.value ∙ ap (degree_terms c.args.others.count) (c.front.ensures ∙ ap (λ l. front_terms slots slot l.count) c.left.ensures) ∙
+    degree_is c.args.others.count (cells_of c.args.self.now) c.args.marks c.args.i c.requires.hold c.requires.real.1

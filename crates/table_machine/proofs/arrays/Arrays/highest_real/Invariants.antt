@@ -6,7 +6,7 @@ use Rattle.table_machine.proofs.arrays.Arrays.highest_real.Given as goal
 
 abbrev pub invariant-loop-i : goal.invariant-loop-i
 invariant-loop-i l =
-    Highest l.others (cells_of l.self) l.marks l.count l.i l.top × (l.i ≤ l.marks.done) ×
+    Highest l.fn.others.count (cells_of l.self) l.marks l.count l.i l.top × (l.i ≤ l.marks.done) ×
     (l.i < l.marks.done → 0 < (left_in l.self.lefts.now (l.marks.base + l.i)).count)
 
 abbrev pub decreases-loop-i : goal.decreases-loop-i

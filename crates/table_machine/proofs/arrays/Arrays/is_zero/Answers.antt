@@ -10,4 +10,4 @@ returns c =
     let slots = c.args.self.now.slots.now in
     let i = c.args.marks.base + c.args.marks.done in
     c.is_zero.ensures ∙ ap is_zero_terms c.current.ensures ∙
-    denoting_laws.zero_is (suc c.args.others) (front_terms slots i c.args.marks.count) _ (front-denotes c.args.others slots i c.args.marks.count c.requires.hold)
+    denoting_laws.zero_is (suc c.args.others.count) (front_terms slots i c.args.marks.count) _ (front-denotes c.args.others.count slots i c.args.marks.count c.requires.hold)

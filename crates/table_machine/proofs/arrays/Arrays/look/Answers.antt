@@ -12,8 +12,8 @@ returns-then-is_zero c =
       looks = record {
         asked = 0;
         counted = omega arith;
-        moves = subst (λ d. Moves c.args.others before c.args.at d (facing_at c.pass_zero-marks.result c.args.at.pending) 0) (sym rest)
-            (moves_zero c.args.others before c.args.at.marks c.args.at.pending c.pass_zero-marks.new.self.lefts.now c.pass_zero-marks.result
+        moves = subst (λ d. Moves c.args.others.count before c.args.at d (facing_at c.pass_zero-marks.result c.args.at.pending) 0) (sym rest)
+            (moves_zero c.args.others.count before c.args.at.marks c.args.at.pending c.pass_zero-marks.new.self.lefts.now c.pass_zero-marks.result
             c.requires.some.0 c.requires.some.1 (sym c.if-is_zero.ensures) c.pass_zero-marks.ensures.passes);
       };
       slots = ap (λ d. d.slots) rest;
@@ -28,8 +28,8 @@ returns-in-Some c =
       looks = record {
         asked = 0;
         counted = omega arith;
-        moves = subst (λ d. Moves c.args.others before c.args.at d (facing_at c.settle-marks.result c.args.at.pending) 0) (sym rest)
-            (moves-known c.args.others before c.args.at.marks c.args.at.pending c.in-Some.sign c.settle-marks.new.self.lefts.now c.settle-marks.result
+        moves = subst (λ d. Moves c.args.others.count before c.args.at d (facing_at c.settle-marks.result c.args.at.pending) 0) (sym rest)
+            (moves-known c.args.others.count before c.args.at.marks c.args.at.pending c.in-Some.sign c.settle-marks.new.self.lefts.now c.settle-marks.result
             c.requires.some.0 c.requires.some.1 (sym c.if-is_zero.ensures) c.in-Some.ensures c.settle-marks.ensures.settles);
       };
       slots = ap (λ d. d.slots) rest;

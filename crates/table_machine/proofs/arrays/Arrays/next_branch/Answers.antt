@@ -12,11 +12,11 @@ returns-in-Above c =
     record {
       returns = (
         refl,
-        returned_above c.args.others before c.args.tree q c.args.pending after c.explore-marks.result c.requires.some c.question-question.ensures c.in-Above.is
+        returned_above c.args.others.count before c.args.tree q c.args.pending after c.explore-marks.result c.requires.some c.question-question.ensures c.in-Above.is
             c.explore-marks.ensures,
       );
-      slots = explored_slots c.args.others before q.marks (c.args.pending - 1) _ _ after c.explore-marks.result c.explore-marks.ensures;
-      long = explored_long c.args.others before q.marks (c.args.pending - 1) _ _ after c.explore-marks.result c.explore-marks.ensures;
+      slots = explored_slots c.args.others.count before q.marks (c.args.pending - 1) _ _ after c.explore-marks.result c.explore-marks.ensures;
+      long = explored_long c.args.others.count before q.marks (c.args.pending - 1) _ _ after c.explore-marks.result c.explore-marks.ensures;
     }
 
 pub returns-in-At : goal.returns-in-At
@@ -27,11 +27,11 @@ returns-in-At c =
     record {
       returns = (
         refl,
-        returned_at c.args.others before c.args.tree c.in-At.above q c.args.pending after c.explore-marks-in-At.result c.requires.some c.question-question.ensures
+        returned_at c.args.others.count before c.args.tree c.in-At.above q c.args.pending after c.explore-marks-in-At.result c.requires.some c.question-question.ensures
             c.in-At.is c.explore-marks-in-At.ensures,
       );
-      slots = explored_slots c.args.others before q.marks (c.args.pending - 1) _ _ after c.explore-marks-in-At.result c.explore-marks-in-At.ensures;
-      long = explored_long c.args.others before q.marks (c.args.pending - 1) _ _ after c.explore-marks-in-At.result c.explore-marks-in-At.ensures;
+      slots = explored_slots c.args.others.count before q.marks (c.args.pending - 1) _ _ after c.explore-marks-in-At.result c.explore-marks-in-At.ensures;
+      long = explored_long c.args.others.count before q.marks (c.args.pending - 1) _ _ after c.explore-marks-in-At.result c.explore-marks-in-At.ensures;
     }
 
 pub returns-in-Below : goal.returns-in-Below
@@ -40,7 +40,7 @@ returns-in-Below c =
       returns = (
         refl,
         ap (λ q. is_below q.branch) (sym c.question-question.ensures) ∙ ap is_below c.in-Below.is,
-        finishes c.args.others (cells_of c.args.self.now) c.args.tree c.args.pending c.requires.some,
+        finishes c.args.others.count (cells_of c.args.self.now) c.args.tree c.args.pending c.requires.some,
       );
       slots = refl;
       long = record { lefts = refl; facts = refl; questions = refl };
