@@ -2,6 +2,6 @@
 #![tactic(auto)]
 
 pub mod equality;
-pub mod place;
 pub mod stretch;
+pub mod variables;
 pub mod view;

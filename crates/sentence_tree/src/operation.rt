@@ -8,6 +8,7 @@ ghost use Rattle.sentence_tree.specs.Operands.{Ready, Joins};
 ghost use Rattle.sentence_tree.specs.Placed.{Placed, Places};
 
 use arena::arena::Arena;
+use packed::variables::Variables;
 use storage::pack::pack;
 use storage::remainder::view;
 use storage::span::Span;
@@ -31,12 +32,11 @@ fn place(list: &Wide, arena: &mut Arena) -> Option<usize>
 pub fn place_number(
     scratch: &mut Scratch,
     arena: &mut Arena,
-    variables: u8,
+    variables: Variables,
     number: i64,
 ) -> Option<usize>
-    requires few { variables ≤ 4 }
     requires room { arena.old.top + 64 ≤ length arena.old.cells.now }
-    ensures placed { Placed variables (checked variables (constant variables number)) result arena.old.top arena.old.cells.now arena.new.top arena.new.cells.now }
+    ensures placed { Placed variables.count (checked variables.count (constant variables.count number)) result arena.old.top arena.old.cells.now arena.new.top arena.new.cells.now }
     ensures lent { arena.new.cells.ghost_name ≡ arena.old.cells.ghost_name }
 {
     scratch.number(number);
@@ -47,15 +47,14 @@ pub fn place_number(
 pub fn place_variable(
     scratch: &mut Scratch,
     arena: &mut Arena,
-    variables: u8,
+    variables: Variables,
     i: u8,
 ) -> Option<usize>
-    requires few { variables ≤ 4 }
     requires room { arena.old.top + 64 ≤ length arena.old.cells.now }
-    ensures placed { Placed variables (checked variables (variable variables i)) result arena.old.top arena.old.cells.now arena.new.top arena.new.cells.now }
+    ensures placed { Placed variables.count (checked variables.count (variable variables.count i)) result arena.old.top arena.old.cells.now arena.new.top arena.new.cells.now }
     ensures lent { arena.new.cells.ghost_name ≡ arena.old.cells.ghost_name }
 {
-    scratch.variable(u32::from(variables), u32::from(i));
+    scratch.variable(variables, u32::from(i));
     place(&scratch.front, arena)
 }
 

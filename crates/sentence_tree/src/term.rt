@@ -5,6 +5,7 @@ ghost use Rattle.sentence_tree.specs.Evaluated.{Evaluates};
 
 use crate::operation::{Operands, place_number, place_product, place_sum, place_variable};
 use arena::arena::Arena;
+use packed::variables::Variables;
 use wide::scratch::Scratch;
 use words::kind::Kind;
 use words::reader::{NotASentence, Reader};
@@ -14,12 +15,11 @@ pub fn term(
     reader: &mut Reader,
     scratch: &mut Scratch,
     arena: &mut Arena,
-    variables: u8,
+    variables: Variables,
     depth: usize,
 ) -> Result<Option<usize>, NotASentence>
-    requires few { variables ≤ 4 }
     requires room { arena.old.top + 64 * (depth + 1) ≤ length arena.old.cells.now }
-    ensures read { Evaluates variables (term_at depth variables reader.old.rest.now) result reader.new.rest.now arena.old.top arena.old.cells.now arena.new.top arena.new.cells.now }
+    ensures read { Evaluates variables.count (term_at depth variables.count reader.old.rest.now) result reader.new.rest.now arena.old.top arena.old.cells.now arena.new.top arena.new.cells.now }
     ensures lent { arena.new.cells.ghost_name ≡ arena.old.cells.ghost_name }
 {
     if depth == 0 {
@@ -27,7 +27,7 @@ pub fn term(
     }
     match reader.kind()? {
         Kind::Variable => {
-            let i = reader.variable(variables)?;
+            let i = reader.variable(variables.count() as u8)?;
             Ok(place_variable(scratch, arena, variables, i))
         }
         Kind::Number => {

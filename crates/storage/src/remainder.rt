@@ -14,6 +14,7 @@ use crate::pack::{TooBig, pack};
 use crate::span::Span;
 use arena::arena::Arena;
 use field::sign::Sign;
+use packed::variables::Variables;
 use packed::view::View;
 use wide::scratch::Scratch;
 
@@ -39,15 +40,15 @@ pub fn remainder(
     arena: &mut Arena,
     divisor: Span,
     dividend: Span,
-    others: u32,
+    others: Variables,
     leading: Sign,
 ) -> Result<Span, TooBig>
-    requires few { others < 4 }
-    requires divisor { (Holds divisor arena.old.top arena.old.cells.now) × (((p : Poly) × Denotes (suc others) (terms_at divisor arena.old.cells.now) p)) }
-    requires dividend { (Holds dividend arena.old.top arena.old.cells.now) × (((s : Poly) × Denotes (suc others) (terms_at dividend arena.old.cells.now) s)) }
-    requires real { 0 < length_terms others (terms_at divisor arena.old.cells.now) }
+    requires few { others.count < 4 }
+    requires divisor { (Holds divisor arena.old.top arena.old.cells.now) × (((p : Poly) × Denotes (suc others.count) (terms_at divisor arena.old.cells.now) p)) }
+    requires dividend { (Holds dividend arena.old.top arena.old.cells.now) × (((s : Poly) × Denotes (suc others.count) (terms_at dividend arena.old.cells.now) s)) }
+    requires real { 0 < length_terms others.count (terms_at divisor arena.old.cells.now) }
     requires room { arena.old.top + 64 ≤ length arena.old.cells.now }
-    ensures value { remains result others leading (terms_at divisor arena.old.cells.now) (terms_at dividend arena.old.cells.now) arena.old.top arena.old.cells.now arena.new.top arena.new.cells.now }
+    ensures value { remains result others.count leading (terms_at divisor arena.old.cells.now) (terms_at dividend arena.old.cells.now) arena.old.top arena.old.cells.now arena.new.top arena.new.cells.now }
     ensures lent { arena.new.cells.ghost_name ≡ arena.old.cells.ghost_name }
 {
     let mark = arena.top();
@@ -92,14 +93,14 @@ fn divide(
     arena: &mut Arena,
     divisor: Span,
     dividend: Span,
-    others: u32,
+    others: Variables,
 ) -> Result<Quotient, TooBig>
-    requires few { others < 4 }
-    requires divisor { (Holds divisor arena.old.top arena.old.cells.now) × (((p : Poly) × Denotes (suc others) (terms_at divisor arena.old.cells.now) p)) }
-    requires dividend { (Holds dividend arena.old.top arena.old.cells.now) × (((s : Poly) × Denotes (suc others) (terms_at dividend arena.old.cells.now) s)) }
-    requires real { 0 < length_terms others (terms_at divisor arena.old.cells.now) }
+    requires few { others.count < 4 }
+    requires divisor { (Holds divisor arena.old.top arena.old.cells.now) × (((p : Poly) × Denotes (suc others.count) (terms_at divisor arena.old.cells.now) p)) }
+    requires dividend { (Holds dividend arena.old.top arena.old.cells.now) × (((s : Poly) × Denotes (suc others.count) (terms_at dividend arena.old.cells.now) s)) }
+    requires real { 0 < length_terms others.count (terms_at divisor arena.old.cells.now) }
     requires room { arena.old.top + 64 ≤ length arena.old.cells.now }
-    ensures value { divided result others (terms_at divisor arena.old.cells.now) (terms_at dividend arena.old.cells.now) arena.old.top arena.old.cells.now arena.new.top arena.new.cells.now }
+    ensures value { divided result others.count (terms_at divisor arena.old.cells.now) (terms_at dividend arena.old.cells.now) arena.old.top arena.old.cells.now arena.new.top arena.new.cells.now }
     ensures lent { arena.new.cells.ghost_name ≡ arena.old.cells.ghost_name }
 {
     let mark = arena.top();
@@ -120,10 +121,9 @@ fn divide(
 }
 
 // Whether the dividend has at least as many coefficients as the divisor.
-fn has_step(arena: &Arena, divisor: Span, dividend: Span, others: u32) -> bool
-    requires few { others ≤ 4 }
+fn has_step(arena: &Arena, divisor: Span, dividend: Span, others: Variables) -> bool
     requires spans { (Holds divisor arena.now.top arena.now.cells.now) × (Holds dividend arena.now.top arena.now.cells.now) }
-    ensures { result ≡ nat_le (length_terms others (terms_at divisor arena.now.cells.now)) (length_terms others (terms_at dividend arena.now.cells.now)) }
+    ensures { result ≡ nat_le (length_terms others.count (terms_at divisor arena.now.cells.now)) (length_terms others.count (terms_at dividend arena.now.cells.now)) }
 {
     view(arena, divisor).coefficient_count(others)
         <= view(arena, dividend).coefficient_count(others)
@@ -136,14 +136,13 @@ fn divide_once(
     mark: usize,
     divisor: Span,
     dividend: Span,
-    others: u32,
+    others: Variables,
 ) -> Result<usize, TooBig>
-    requires few { others ≤ 4 }
     requires spans { (Holds divisor arena.old.top arena.old.cells.now) × (Holds dividend arena.old.top arena.old.cells.now) }
-    requires real { 0 < length_terms others (terms_at divisor arena.old.cells.now) }
-    requires over { length_terms others (terms_at divisor arena.old.cells.now) ≤ length_terms others (terms_at dividend arena.old.cells.now) }
+    requires real { 0 < length_terms others.count (terms_at divisor arena.old.cells.now) }
+    requires over { length_terms others.count (terms_at divisor arena.old.cells.now) ≤ length_terms others.count (terms_at dividend arena.old.cells.now) }
     requires room { (mark ≤ arena.old.top) × (mark + 64 ≤ length arena.old.cells.now) }
-    ensures stored { stored result (step_terms others (terms_at divisor arena.old.cells.now) (terms_at dividend arena.old.cells.now)) mark arena.old.cells.now arena.new.top arena.new.cells.now }
+    ensures stored { stored result (step_terms others.count (terms_at divisor arena.old.cells.now) (terms_at dividend arena.old.cells.now)) mark arena.old.cells.now arena.new.top arena.new.cells.now }
     ensures lent { arena.new.cells.ghost_name ≡ arena.old.cells.ghost_name }
 {
     scratch.division_step(view(arena, divisor), view(arena, dividend), others);

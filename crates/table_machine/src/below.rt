@@ -9,6 +9,7 @@ ghost use Rattle.table_machine.specs.Loading.{loaded};
 use crate::front::Front;
 use crate::polynomials::Polynomials;
 use arena::arena::{Arena, Full};
+use packed::variables::Variables;
 use stacks::slots::{front_at, put_polynomial};
 use storage::pack::{TooBig, pack};
 use storage::span::Span;
@@ -17,16 +18,16 @@ use wide::scratch::Scratch;
 // The derivative of the first monomials of a polynomial, stored in another slot if it is modest. The arena is only worked in.
 pub fn put_derivative(
     slots: &mut [i64],
-    others: u32,
+    others: Variables,
     front: Front,
     to: u16,
     scratch: &mut Scratch,
     arena: &mut Arena,
 ) -> Result<(), TooBig>
-    requires few { others < 4 }
-    requires hold { AllHold others slots.old }
+    requires few { others.count < 4 }
+    requires hold { AllHold others.count slots.old }
     requires room { (65 * to + 65 ≤ length slots.old) × (arena.old.top + 64 ≤ length arena.old.cells.now) }
-    ensures derives { derives result others slots.old front.slot front.count to slots.new }
+    ensures derives { derives result others.count slots.old front.slot front.count to slots.new }
     ensures arena { (arena.new.top ≡ arena.old.top) × (take arena.new.top arena.new.cells.now ≡ take arena.old.top arena.old.cells.now) }
 {
     let mark = arena.top();

@@ -3,6 +3,8 @@ ghost use Rattle.std.specs.Prelude.{◌<◌};
 ghost use Rattle.stacks.specs.Memories.{AllHold};
 ghost use Rattle.table_machine.specs.OneProof.{AllHold-prop};
 
+use packed::variables::Variables;
+
 mod look;
 mod reads;
 mod reals;
@@ -10,12 +12,12 @@ mod settle;
 
 #[derive(Drop)]
 pub struct Machine<'a> {
-    pub others: u32,
+    pub others: Variables,
     pub slots: &'a mut [i64],
     pub lefts: &'a mut [i64],
     pub facts: &'a mut [i64],
     pub frames: &'a mut [i64],
     pub questions: &'a mut [i64],
-    pub ghost few: { others < 4 },
-    pub ghost hold: { AllHold others slots.now } by { AllHold-prop others slots.now },
+    pub ghost few: { others.count < 4 },
+    pub ghost hold: { AllHold others.count slots.now } by { AllHold-prop others.count slots.now },
 }

@@ -3,13 +3,15 @@ ghost use Rattle.std.specs.Prelude.{◌<◌};
 ghost use Rattle.stacks.specs.Memories.{AllHold};
 ghost use Rattle.table_machine.specs.OneProof.{AllHold-prop};
 
+use packed::variables::Variables;
+
 mod facts;
 mod fronts;
 
 #[derive(Clone, Copy)]
 pub struct Polynomials<'a> {
-    pub others: u32,
+    pub others: Variables,
     pub slots: &'a [i64],
-    pub ghost few: { others < 4 },
-    pub ghost hold: { AllHold others slots.now } by { AllHold-prop others slots.now },
+    pub ghost few: { others.count < 4 },
+    pub ghost hold: { AllHold others.count slots.now } by { AllHold-prop others.count slots.now },
 }

@@ -13,8 +13,8 @@ ghost use Rattle.wide.specs.Slopes.{slope_by};
 
 use crate::scratch::{Scratch, signed_term};
 use crate::term::Term;
-use packed::place::digit_place;
 use packed::stretch::Stretch;
+use packed::variables::Variables;
 use packed::view::View;
 
 impl Scratch<'_> {
@@ -51,11 +51,10 @@ impl Scratch<'_> {
     }
 
     // One step of a division by a divisor that isn't zero and has no higher degree: at most 8,192 monomials.
-    pub fn division_step(&mut self, divisor: View, dividend: View, others: u32)
-        requires few { others ≤ 4 }
-        requires real { 0 < length_terms others (terms_in divisor) }
-        requires over { length_terms others (terms_in divisor) ≤ length_terms others (terms_in dividend) }
-        ensures value { written self.new.front ≡ step_terms others (terms_in divisor.entry) (terms_in dividend.entry) }
+    pub fn division_step(&mut self, divisor: View, dividend: View, others: Variables)
+        requires real { 0 < length_terms others.count (terms_in divisor) }
+        requires over { length_terms others.count (terms_in divisor) ≤ length_terms others.count (terms_in dividend) }
+        ensures value { written self.new.front ≡ step_terms others.count (terms_in divisor.entry) (terms_in dividend.entry) }
         ensures rising { Rising 0 (2 ^ 20) (written self.new.front) }
     {
         self.clear();
@@ -79,12 +78,11 @@ impl Scratch<'_> {
     }
 
     // The derivative in the first variable, which `others` more come after: at most 64 monomials.
-    pub fn derivative(&mut self, polynomial: View, others: u32)
-        requires { others ≤ 4 }
-        ensures value { written self.new.front ≡ derivative_terms others (terms_in polynomial.entry) }
+    pub fn derivative(&mut self, polynomial: View, others: Variables)
+        ensures value { written self.new.front ≡ derivative_terms others.count (terms_in polynomial.entry) }
         ensures rising { Rising 0 (2 ^ 20) (written self.new.front) }
     {
-        let place = digit_place(others);
+        let place = others.digit_place();
         self.clear();
         for i in polynomial.count_below(place)..polynomial.len() {
             self.front.push(slope(polynomial, place, i));
@@ -106,16 +104,14 @@ impl Scratch<'_> {
     }
 
     // One of so many variables; zero if there is none of this number.
-    pub fn variable(&mut self, variables: u32, variable: u32)
-        requires { variables ≤ 4 }
-        ensures value { written self.new.front ≡ variable_terms variables variable }
+    pub fn variable(&mut self, variables: Variables, variable: u32)
+        ensures value { written self.new.front ≡ variable_terms variables.count variable }
         ensures rising { Rising 0 (2 ^ 20) (written self.new.front) }
     {
         self.clear();
-        if variable < variables {
-            let key = digit_place(variables - variable - 1);
+        if let Some(others) = variables.after(variable) {
             self.front.push(Term {
-                key,
+                key: others.digit_place(),
                 coefficient: 1,
             });
         }

@@ -7,6 +7,7 @@ ghost use Rattle.packed.specs.Terms.{terms_in, term_at};
 ghost use Rattle.packed.specs.StretchTerms.{stretch_terms};
 
 use super::Stretch;
+use crate::variables::Variables;
 use crate::view::View;
 
 impl<'a> Stretch<'a> {
@@ -22,9 +23,8 @@ impl<'a> Stretch<'a> {
     }
 
     // The leading coefficient, a polynomial in the `others` variables that come after the first.
-    pub fn leading(view: View<'a>, others: u32) -> Stretch<'a>
-        requires { others ≤ 4 }
-        ensures { stretch_terms result ≡ leading_terms others (terms_in view.entry) }
+    pub fn leading(view: View<'a>, others: Variables) -> Stretch<'a>
+        ensures { stretch_terms result ≡ leading_terms others.count (terms_in view.entry) }
     {
         let down = view.leading_key(others);
         let from = view.count_below(down);
@@ -32,11 +32,10 @@ impl<'a> Stretch<'a> {
     }
 
     // The leading coefficient of the dividend with that power of the first variable by which its degree exceeds the divisor's.
-    pub fn leading_over(dividend: View<'a>, divisor: View, others: u32) -> Stretch<'a>
-        requires few { others ≤ 4 }
-        requires real { 0 < length_terms others (terms_in divisor) }
-        requires over { length_terms others (terms_in divisor) ≤ length_terms others (terms_in dividend) }
-        ensures { stretch_terms result ≡ raised ((length_terms others (terms_in dividend.entry) - length_terms others (terms_in divisor.entry)) * 32 ^ others) (leading_terms others (terms_in dividend.entry)) }
+    pub fn leading_over(dividend: View<'a>, divisor: View, others: Variables) -> Stretch<'a>
+        requires real { 0 < length_terms others.count (terms_in divisor) }
+        requires over { length_terms others.count (terms_in divisor) ≤ length_terms others.count (terms_in dividend) }
+        ensures { stretch_terms result ≡ raised ((length_terms others.count (terms_in dividend.entry) - length_terms others.count (terms_in divisor.entry)) * 32 ^ others.count) (leading_terms others.count (terms_in dividend.entry)) }
     {
         let from = dividend.count_below(dividend.leading_key(others));
         Stretch {

@@ -4,22 +4,20 @@ ghost use Rattle.terms.specs.LeadingTerms.{degree_terms, length_terms, count_bel
 ghost use Rattle.packed.specs.Terms.{terms_in};
 
 use super::View;
-use crate::place::digit_place;
+use crate::variables::Variables;
 
 impl<'a> View<'a> {
     // Zero has degree 0.
-    pub fn degree(&self, others: u32) -> u64
-        requires { others ≤ 4 }
-        ensures value { result ≡ degree_terms others (terms_in self.now) }
+    pub fn degree(&self, others: Variables) -> u64
+        ensures value { result ≡ degree_terms others.count (terms_in self.now) }
         ensures bound { result < 2 ^ 19 }
     {
-        self.last_key() / digit_place(others)
+        self.last_key() / others.digit_place()
     }
 
     // How many coefficients there are, zeros below the leading one counted.
-    pub fn coefficient_count(&self, others: u32) -> u64
-        requires { others ≤ 4 }
-        ensures value { result ≡ length_terms others (terms_in self.now) }
+    pub fn coefficient_count(&self, others: Variables) -> u64
+        ensures value { result ≡ length_terms others.count (terms_in self.now) }
         ensures bound { result ≤ 2 ^ 19 }
     {
         if self.is_zero() {
@@ -40,18 +38,16 @@ impl<'a> View<'a> {
     }
 
     // The lowest key that a monomial of the leading coefficient can have.
-    pub fn leading_key(&self, others: u32) -> u64
-        requires { others ≤ 4 }
-        ensures value { result ≡ leading_key others (terms_in self.now) }
+    pub fn leading_key(&self, others: Variables) -> u64
+        ensures value { result ≡ leading_key others.count (terms_in self.now) }
         ensures bound { result < 2 ^ 19 }
     {
-        self.degree(others) * digit_place(others)
+        self.degree(others) * others.digit_place()
     }
 
     // What is left without the leading coefficient: the same numbers, fewer of them.
-    pub fn without_leading(self, others: u32) -> View<'a>
-        requires { others ≤ 4 }
-        ensures { terms_in result ≡ prefix_terms others (terms_in self.entry) }
+    pub fn without_leading(self, others: Variables) -> View<'a>
+        ensures { terms_in result ≡ prefix_terms others.count (terms_in self.entry) }
     {
         let count = self.count_below(self.leading_key(others));
         View::new(&self.cells[0..count])

@@ -18,7 +18,7 @@ impl Machine<'_> {
     fn pass_zero(&mut self, at: Facing) -> Facing
         requires some { (0 < at.marks.looks) × (0 < at.marks.ahead) }
         requires room { 2 * 2521 ≤ length self.old.lefts.now }
-        ensures passes { PassesZero self.old.others (cells_of self.old) at.marks self.new.lefts.now result.marks }
+        ensures passes { PassesZero self.old.others.count (cells_of self.old) at.marks self.new.lefts.now result.marks }
         ensures pending { result.pending ≡ at.pending }
         ensures others { self.new.others ≡ self.old.others }
         ensures rest { cells_of self.new ≡ rewritten (cells_of self.old) self.new.lefts.now self.old.facts.now self.old.questions.now }
@@ -38,7 +38,7 @@ impl Machine<'_> {
         requires asking { Askable (cells_of self.old) question.marks }
         requires lefts { 2 * 2521 ≤ length self.old.lefts.now }
         requires questions { 10 * pending ≤ length self.old.questions.now }
-        ensures explores { Explores self.old.others (cells_of self.old) question.marks (pending - 1) question.branch sign (cells_of self.new) result.marks }
+        ensures explores { Explores self.old.others.count (cells_of self.old) question.marks (pending - 1) question.branch sign (cells_of self.new) result.marks }
         ensures pending { result.pending ≡ pending }
         ensures others { self.new.others ≡ self.old.others }
     {
@@ -61,8 +61,8 @@ impl Machine<'_> {
     fn ask(&mut self, at: Facing) -> Facing
         requires some { (0 < at.marks.looks) × (0 < at.marks.ahead) }
         requires room { Room (cells_of self.old) at }
-        requires unknown { (is_zero (current_poly self.old.others self.old.slots.now at.marks) ≡ false) × (current_known self.old.others self.old.slots.now self.old.facts.now at.marks ≡ Unknown) }
-        ensures looks { Looks self.old.others (cells_of self.old) at (cells_of self.new) result }
+        requires unknown { (is_zero (current_poly self.old.others.count self.old.slots.now at.marks) ≡ false) × (current_known self.old.others.count self.old.slots.now self.old.facts.now at.marks ≡ Unknown) }
+        ensures looks { Looks self.old.others.count (cells_of self.old) at (cells_of self.new) result }
         ensures others { self.new.others ≡ self.old.others }
         ensures slots { self.new.slots.now ≡ self.old.slots.now }
         ensures long { SameLengths (cells_of self.old) (cells_of self.new) }
@@ -80,7 +80,7 @@ impl Machine<'_> {
         requires asking { Askable (cells_of self.old) (question_in self.old.questions.now (pending - 1)).marks }
         requires lefts { 2 * 2521 ≤ length self.old.lefts.now }
         requires questions { 10 * pending ≤ length self.old.questions.now }
-        ensures returns { Returns self.old.others (cells_of self.old) tree pending (cells_of self.new) result }
+        ensures returns { Returns self.old.others.count (cells_of self.old) tree pending (cells_of self.new) result }
         ensures others { self.new.others ≡ self.old.others }
         ensures slots { self.new.slots.now ≡ self.old.slots.now }
         ensures long { SameLengths (cells_of self.old) (cells_of self.new) }
@@ -103,7 +103,7 @@ impl Machine<'_> {
     pub fn look(&mut self, at: Facing) -> Facing
         requires some { (0 < at.marks.looks) × (0 < at.marks.ahead) }
         requires room { Room (cells_of self.old) at }
-        ensures looks { Looks self.old.others (cells_of self.old) at (cells_of self.new) result }
+        ensures looks { Looks self.old.others.count (cells_of self.old) at (cells_of self.new) result }
         ensures others { self.new.others ≡ self.old.others }
         ensures slots { self.new.slots.now ≡ self.old.slots.now }
         ensures long { SameLengths (cells_of self.old) (cells_of self.new) }

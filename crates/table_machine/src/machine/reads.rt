@@ -34,14 +34,14 @@ impl Machine<'_> {
     }
 
     pub fn is_zero(&self, at: Facing) -> bool
-        ensures { result ≡ is_zero (current_poly self.now.others self.now.slots.now at.marks) }
+        ensures { result ≡ is_zero (current_poly self.now.others.count self.now.slots.now at.marks) }
     {
         self.current(at).is_zero()
     }
 
     // What the facts tell of its leading coefficient.
     pub fn known(&self, at: Facing) -> Option<Sign>
-        ensures { known_of result ≡ current_known self.now.others self.now.slots.now self.now.facts.now at.marks }
+        ensures { known_of result ≡ current_known self.now.others.count self.now.slots.now self.now.facts.now at.marks }
     {
         self.polynomials()
             .known_sign(self.facts, at.front(), at.marks.facts)

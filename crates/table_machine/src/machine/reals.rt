@@ -19,7 +19,7 @@ impl Machine<'_> {
     // The degree of a real polynomial of the table.
     fn degree_at(&self, at: Facing, i: u16) -> u64
         requires { (i < at.marks.done) × (0 < (left_in self.now.lefts.now (at.marks.base + i)).count) }
-        ensures { result ≡ degree (poly_of (table_left self.now.others (cells_of self.now) at.marks i)) }
+        ensures { result ≡ degree (poly_of (table_left self.now.others.count (cells_of self.now) at.marks i)) }
     {
         let slot = at.marks.base + i;
         let front = Front {
@@ -32,7 +32,7 @@ impl Machine<'_> {
     // Of that and the i-th, which is real, the one of higher degree, the first if they are equal; `count` real ones come before the i-th.
     fn higher(&self, at: Facing, top: Option<Top>, i: u16, count: u16) -> Top
         requires { (i < at.marks.done) × (0 < (left_in self.now.lefts.now (at.marks.base + i)).count) }
-        ensures { result ≡ higher_of self.now.others (cells_of self.now) at.marks top i count }
+        ensures { result ≡ higher_of self.now.others.count (cells_of self.now) at.marks top i count }
     {
         let degree = self.degree_at(at, i);
         match top {
@@ -47,7 +47,7 @@ impl Machine<'_> {
 
     // The first of the real polynomials with the highest degree, if any is real.
     pub fn highest_real(&self, at: Facing) -> Option<Top>
-        ensures { FoundHighest self.now.others (cells_of self.now) at.marks result }
+        ensures { FoundHighest self.now.others.count (cells_of self.now) at.marks result }
     {
         let mut top = None;
         let mut count = 0;
@@ -63,13 +63,14 @@ impl Machine<'_> {
     // Whether a polynomial is to be looked at, or a real one to be divided in the table below. Otherwise the run that counts is done with this branch:
     // no more may be looked at, none is real, or no table may come below this one.
     pub fn outlook(&self, at: Facing) -> Outlook
-        ensures { Foresees self.now.others (cells_of self.now) at.marks result }
+        ensures { Foresees self.now.others.count (cells_of self.now) at.marks result }
     {
         if at.marks.ahead > 0 {
-            if at.marks.looks > 0 {
-                return Outlook::Look;
-            }
-            return Outlook::GiveUp;
+            return if at.marks.looks > 0 {
+                Outlook::Look
+            } else {
+                Outlook::GiveUp
+            };
         }
         match self.highest_real(at) {
             Some(top) if at.marks.frames < DEEPEST => Outlook::Divide(top),

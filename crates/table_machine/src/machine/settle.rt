@@ -13,7 +13,7 @@ impl Machine<'_> {
     // Where the machine looks when the current polynomial has lost its leading coefficient.
     fn shorter(&self, at: Facing) -> Facing
         requires some { 0 < at.marks.looks }
-        ensures marks { result.marks ≡ shorter_marks self.now.others self.now.slots.now at.marks }
+        ensures marks { result.marks ≡ shorter_marks self.now.others.count self.now.slots.now at.marks }
         ensures pending { result.pending ≡ at.pending }
     {
         let rest = self.current(at).without_leading(self.others);
@@ -30,7 +30,7 @@ impl Machine<'_> {
 
     // What is left of the current polynomial, whose leading coefficient has this sign, not zero.
     fn left_of(&self, at: Facing, sign: Sign) -> Left
-        ensures { result ≡ record { count = left_count self.now.others self.now.slots.now at.marks; sign = sign } }
+        ensures { result ≡ record { count = left_count self.now.others.count self.now.slots.now at.marks; sign = sign } }
     {
         if self.current(at).degree(self.others) == 0 {
             return Left { count: 0, sign };
@@ -45,7 +45,7 @@ impl Machine<'_> {
     pub fn settle(&mut self, at: Facing, sign: Sign) -> Facing
         requires some { (0 < at.marks.looks) × (0 < at.marks.ahead) }
         requires room { 2 * 2521 ≤ length self.old.lefts.now }
-        ensures settles { Settles self.old.others (cells_of self.old) at.marks sign self.new.lefts.now result.marks }
+        ensures settles { Settles self.old.others.count (cells_of self.old) at.marks sign self.new.lefts.now result.marks }
         ensures pending { result.pending ≡ at.pending }
         ensures others { self.new.others ≡ self.old.others }
         ensures rest { cells_of self.new ≡ rewritten (cells_of self.old) self.new.lefts.now self.old.facts.now self.old.questions.now }

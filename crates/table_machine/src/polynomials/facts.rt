@@ -31,7 +31,7 @@ fn number_sign(number: Stretch) -> Sign
 impl Polynomials<'_> {
     // The sign that a fact gives to a leading coefficient, if it is about that or its negative.
     fn told(&self, leading: Stretch, fact: Fact) -> Option<Sign>
-        ensures { known_of result ≡ told_by (same_terms (stretch_terms leading.entry) (leading_front self.now.others self.now.slots.now fact.slot fact.count)) (same_terms (neg_terms (stretch_terms leading.entry)) (leading_front self.now.others self.now.slots.now fact.slot fact.count)) fact.sign }
+        ensures { known_of result ≡ told_by (same_terms (stretch_terms leading.entry) (leading_front self.now.others.count self.now.slots.now fact.slot fact.count)) (same_terms (neg_terms (stretch_terms leading.entry)) (leading_front self.now.others.count self.now.slots.now fact.slot fact.count)) fact.sign }
     {
         let about = self.leading(Front::from(fact));
         if same_signed(leading, false, about) {
@@ -45,7 +45,7 @@ impl Polynomials<'_> {
 
     // What the first `len` facts tell, the newest first.
     fn among_facts(&self, facts: &[i64], front: Front, len: u16) -> Option<Sign>
-        ensures { known_of result ≡ among self.now.others (leading_of self.now.others (front_poly self.now.others self.now.slots.now front.slot front.count)) (back (λ i. fact_from self.now.others self.now.slots.now (fact_in facts.now i)) len) }
+        ensures { known_of result ≡ among self.now.others.count (leading_of self.now.others.count (front_poly self.now.others.count self.now.slots.now front.slot front.count)) (back (λ i. fact_from self.now.others.count self.now.slots.now (fact_in facts.now i)) len) }
     {
         let leading = self.leading(front);
         for i in (0..len).rev() {
@@ -58,10 +58,10 @@ impl Polynomials<'_> {
 
     // What is known of the sign of a leading coefficient, by the first `len` facts. With no variables left it is a number, which has its sign.
     pub fn known_sign(&self, facts: &[i64], front: Front, len: u16) -> Option<Sign>
-        ensures { known_of result ≡ known self.now.others (leading_of self.now.others (front_poly self.now.others self.now.slots.now front.slot front.count)) (back (λ i. fact_from self.now.others self.now.slots.now (fact_in facts.now i)) len) }
+        ensures { known_of result ≡ known self.now.others.count (leading_of self.now.others.count (front_poly self.now.others.count self.now.slots.now front.slot front.count)) (back (λ i. fact_from self.now.others.count self.now.slots.now (fact_in facts.now i)) len) }
     {
         let leading = self.leading(front);
-        if self.others == 0 {
+        if self.others.count() == 0 {
             return Some(number_sign(leading));
         }
         if leading.len() == 0 {

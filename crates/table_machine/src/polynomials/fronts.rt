@@ -19,7 +19,7 @@ impl<'a> Polynomials<'a> {
 
     // The leading coefficient.
     pub fn leading(&self, front: Front) -> Stretch<'a>
-        ensures { stretch_terms result ≡ leading_front self.now.others self.now.slots.now front.slot front.count }
+        ensures { stretch_terms result ≡ leading_front self.now.others.count self.now.slots.now front.slot front.count }
     {
         Stretch::leading(self.view(front), self.others)
     }

@@ -8,11 +8,11 @@ use Rattle.sentence_tree.proofs.operation.place_number.Goals as goal
 
 pub returns : goal.returns
 returns c =
-    let n = c.args.variables in
+    let n = c.args.variables.count in
     let z = c.args.number in
     let p = constant n z in
     let fits : SFits w64 z = search rules in
     record {
-      placed = c.place.ensures.placed n p (subst (λ ts. Checks n ts p) (sym (c.number.ensures.value ∙ ap constant_terms (to_z-of_z w64 z fits))) (denoting_laws.number_checks n z c.requires.few));
+      placed = c.place.ensures.placed n p (subst (λ ts. Checks n ts p) (sym (c.number.ensures.value ∙ ap constant_terms (to_z-of_z w64 z fits))) (denoting_laws.number_checks n z c.args.variables.few));
       lent = c.place.ensures.lent;
     }

@@ -11,18 +11,17 @@ pub loop-fuel-init : goal.loop-fuel-init
 loop-fuel-init c =
     let cells = c.args.arena.now.cells.now in
     let e : c.top-mark.result ≡ c.args.arena.now.top = c.top-mark.ensures in
-    let f : c.coefficient_count-fuel.result + 1 ≡ length_terms c.args.others (terms_at c.args.dividend cells) + 1 =
-    ap (λ k. k + 1) (c.coefficient_count-fuel.ensures.value ∙ ap (length_terms c.args.others) c.view.ensures) in
+    let f : c.coefficient_count-fuel.result + 1 ≡ length_terms c.args.others.count (terms_at c.args.dividend cells) + 1 =
+    ap (λ k. k + 1) (c.coefficient_count-fuel.ensures.value ∙ ap (length_terms c.args.others.count) c.view.ensures) in
     let D : ℕ → ℕ → ℕ → Type 0 = λ m fuel top.
-    Dividing c.args.others (terms_at c.args.divisor cells) (terms_at c.args.dividend cells) m cells (length_terms c.args.others (terms_at c.args.dividend cells) + 1) fuel 0 c.args.dividend top cells in
-    let d = begun c.args.others (terms_at c.args.divisor cells) (terms_at c.args.dividend cells) c.args.arena.now.top cells (omega (arith, c.requires.few)) c.args.dividend refl c.requires.dividend.0 in
+    Dividing c.args.others.count (terms_at c.args.divisor cells) (terms_at c.args.dividend cells) m cells (length_terms c.args.others.count (terms_at c.args.dividend cells) + 1) fuel 0 c.args.dividend top cells in
+    let d = begun c.args.others.count (terms_at c.args.divisor cells) (terms_at c.args.dividend cells) c.args.arena.now.top cells (omega (arith, c.requires.few)) c.args.dividend refl c.requires.dividend.0 in
     (subst (λ m. D m (c.coefficient_count-fuel.result + 1) c.args.arena.now.top) (sym e) (subst (λ u. D c.args.arena.now.top u c.args.arena.now.top) (sym f) d), refl)
 
 pub has_step-requires : goal.has_step-requires
 has_step-requires c =
     let low = subst (λ m. Holds c.args.divisor m c.args.arena.now.cells.now) (sym c.top-mark.ensures) c.requires.divisor.0 in
     record {
-      few = omega (arith, c.requires.few);
       spans = (holds_kept c.args.divisor c.top-mark.result c.args.arena.now.cells.now _ _ low c.loop-fuel.invariant.0.untouched, c.loop-fuel.invariant.0.holds);
     }
 
@@ -30,11 +29,10 @@ pub divide_once-requires : goal.divide_once-requires
 divide_once-requires c =
     let cells = c.args.arena.now.cells.now in
     let low = subst (λ m. Holds c.args.divisor m cells) (sym c.top-mark.ensures) c.requires.divisor.0 in
-    let same = still c.args.others c.args.divisor (terms_at c.args.dividend cells) c.top-mark.result cells (omega (arith, c.requires.few)) low c.loop-fuel.fuel c.loop-fuel.quotient.steps c.loop-fuel.quotient.rest c.loop-fuel.arena.top c.loop-fuel.arena.cells.now c.loop-fuel.invariant.0 in
+    let same = still c.args.others.count c.args.divisor (terms_at c.args.dividend cells) c.top-mark.result cells (omega (arith, c.requires.few)) low c.loop-fuel.fuel c.loop-fuel.quotient.steps c.loop-fuel.quotient.rest c.loop-fuel.arena.top c.loop-fuel.arena.cells.now c.loop-fuel.invariant.0 in
     record {
-      few = omega (arith, c.requires.few);
       spans = (holds_kept c.args.divisor c.top-mark.result cells _ _ low c.loop-fuel.invariant.0.untouched, c.loop-fuel.invariant.0.holds);
-      real = subst (λ ts. 0 < length_terms c.args.others ts) (sym same) c.requires.real;
+      real = subst (λ ts. 0 < length_terms c.args.others.count ts) (sym same) c.requires.real;
       over = true-leb _ _ c.if-has_step.ensures;
       room = (c.loop-fuel.invariant.0.untouched.above, omega (arith, c.loop-fuel.invariant.0.untouched.long, c.top-mark.ensures, c.requires.room));
     }
@@ -45,13 +43,13 @@ returns-in_err-count c =
     let ps = terms_at c.args.divisor cells in
     let ss = terms_at c.args.dividend cells in
     let low = subst (λ m. Holds c.args.divisor m cells) (sym c.top-mark.ensures) c.requires.divisor.0 in
-    let f = fails_still c.args.others c.args.divisor ss c.top-mark.result cells (omega (arith, c.requires.few)) low c.loop-fuel.fuel c.loop-fuel.quotient.steps c.loop-fuel.quotient.rest
+    let f = fails_still c.args.others.count c.args.divisor ss c.top-mark.result cells (omega (arith, c.requires.few)) low c.loop-fuel.fuel c.loop-fuel.quotient.steps c.loop-fuel.quotient.rest
     c.loop-fuel.arena.top c.loop-fuel.arena.cells.now c.loop-fuel.invariant.0 c.divide_once.new.arena.top c.divide_once.new.arena.cells.now c.loop-fuel-test.true c.if-has_step.ensures
     c.in_err-count.ensures.stored.0 c.in_err-count.ensures.stored.1 in
     record {
       value =
-          refused_result c.from_residual.result c.args.others ps ss c.args.arena.now.top cells _ _ c.from_residual.ensures.0
-          (subst (λ m. Refused c.args.others ps ss m cells c.divide_once.new.arena.top c.divide_once.new.arena.cells.now) c.top-mark.ensures f);
+          refused_result c.from_residual.result c.args.others.count ps ss c.args.arena.now.top cells _ _ c.from_residual.ensures.0
+          (subst (λ m. Refused c.args.others.count ps ss m cells c.divide_once.new.arena.top c.divide_once.new.arena.cells.now) c.top-mark.ensures f);
       lent = c.in_err-count.ensures.lent ∙ c.loop-fuel.invariant.1;
     }
 
@@ -59,7 +57,7 @@ pub loop-fuel-preserved : goal.loop-fuel-preserved
 loop-fuel-preserved c =
     let cells = c.args.arena.now.cells.now in
     let low = subst (λ m. Holds c.args.divisor m cells) (sym c.top-mark.ensures) c.requires.divisor.0 in (
-      step_still c.args.others c.args.divisor (terms_at c.args.dividend cells) c.top-mark.result cells (omega (arith, c.requires.few)) low c.loop-fuel.fuel c.loop-fuel.quotient.steps c.loop-fuel.quotient.rest
+      step_still c.args.others.count c.args.divisor (terms_at c.args.dividend cells) c.top-mark.result cells (omega (arith, c.requires.few)) low c.loop-fuel.fuel c.loop-fuel.quotient.steps c.loop-fuel.quotient.rest
           c.loop-fuel.arena.top c.loop-fuel.arena.cells.now c.loop-fuel.invariant.0 c.in_ok-count.count c.divide_once.new.arena.top c.divide_once.new.arena.cells.now c.loop-fuel-test.true
           c.if-has_step.ensures (omega (arith, c.loop-fuel.invariant.0.untouched.long, c.top-mark.ensures, c.requires.room)) c.in_ok-count.ensures.stored,
       c.in_ok-count.ensures.lent ∙ c.loop-fuel.invariant.1,
@@ -69,11 +67,11 @@ pub returns-else-has_step : goal.returns-else-has_step
 returns-else-has_step c =
     let cells = c.args.arena.now.cells.now in
     let low = subst (λ m. Holds c.args.divisor m cells) (sym c.top-mark.ensures) c.requires.divisor.0 in
-    let d = ended_still c.args.others c.args.divisor (terms_at c.args.dividend cells) c.top-mark.result cells (omega (arith, c.requires.few)) low c.loop-fuel.fuel c.loop-fuel.quotient.steps
+    let d = ended_still c.args.others.count c.args.divisor (terms_at c.args.dividend cells) c.top-mark.result cells (omega (arith, c.requires.few)) low c.loop-fuel.fuel c.loop-fuel.quotient.steps
     c.loop-fuel.quotient.rest c.loop-fuel.arena.top c.loop-fuel.arena.cells.now c.loop-fuel.invariant.0 c.if-has_step.ensures in
     record {
       value =
-          subst (λ m. Divided c.args.others (terms_at c.args.divisor cells) (terms_at c.args.dividend cells) m cells c.loop-fuel.quotient.steps c.loop-fuel.quotient.rest c.loop-fuel.arena.top c.loop-fuel.arena.cells.now)
+          subst (λ m. Divided c.args.others.count (terms_at c.args.divisor cells) (terms_at c.args.dividend cells) m cells c.loop-fuel.quotient.steps c.loop-fuel.quotient.rest c.loop-fuel.arena.top c.loop-fuel.arena.cells.now)
           c.top-mark.ensures d;
       lent = c.loop-fuel.invariant.1;
     }
@@ -81,11 +79,11 @@ returns-else-has_step c =
 pub returns-after-loop-fuel : goal.returns-after-loop-fuel
 returns-after-loop-fuel c =
     let cells = c.args.arena.now.cells.now in
-    let d = out_of_fuel c.args.others (terms_at c.args.divisor cells) (terms_at c.args.dividend cells) c.top-mark.result cells (omega (arith, c.requires.few)) c.loop-fuel.fuel c.loop-fuel.quotient.steps
+    let d = out_of_fuel c.args.others.count (terms_at c.args.divisor cells) (terms_at c.args.dividend cells) c.top-mark.result cells (omega (arith, c.requires.few)) c.loop-fuel.fuel c.loop-fuel.quotient.steps
     c.loop-fuel.quotient.rest c.loop-fuel.arena.top c.loop-fuel.arena.cells.now c.loop-fuel.invariant.0 c.loop-fuel-test.false in
     record {
       value =
-          subst (λ m. Divided c.args.others (terms_at c.args.divisor cells) (terms_at c.args.dividend cells) m cells c.loop-fuel.quotient.steps c.loop-fuel.quotient.rest c.loop-fuel.arena.top c.loop-fuel.arena.cells.now)
+          subst (λ m. Divided c.args.others.count (terms_at c.args.divisor cells) (terms_at c.args.dividend cells) m cells c.loop-fuel.quotient.steps c.loop-fuel.quotient.rest c.loop-fuel.arena.top c.loop-fuel.arena.cells.now)
           c.top-mark.ensures d;
       lent = c.loop-fuel.invariant.1;
     }

@@ -27,7 +27,7 @@ pub returns-in_err-len : goal.returns-in_err-len
 returns-in_err-len c =
     let e = err_from_is_err_and c.from_residual.result c.from_residual.ensures.1 in
     let p = c.in_err-len.ensures.stored in
-    let n = c.args.others in
+    let n = c.args.others.count in
     let ts = written c.derivative.new.self.front in
     record {
       derives = rw (e.1) (not_derived n c.args.slots.now c.args.front.slot c.args.front.count ts c.requires.few c.requires.hold (c.derivative.ensures.value ∙ ap (derivative_terms n) c.view.ensures) p.0, refl);
@@ -41,7 +41,7 @@ returns c =
     let top = c.args.arena.now.top in
     let cells = c.args.arena.now.cells.now in
     let packed = c.pack.new.arena.cells.now in
-    let n = c.args.others in
+    let n = c.args.others.count in
     let back : c.release.new.self.top ≡ top = c.release.ensures.top ∙ c.top-mark.ensures in
     record {
       derives = derived n c.args.slots.now c.args.front.slot c.args.front.count c.args.to c.put_polynomial.new.slots ts c.in_ok-len.len top cells c.pack.new.arena.top packed

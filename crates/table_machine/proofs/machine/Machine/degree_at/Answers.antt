@@ -9,5 +9,5 @@ pub returns : goal.returns
 returns c =
     let self = c.args.self.now in
     let slot = c.args.at.marks.base + c.args.i in
-    c.degree.ensures.value ∙ ap (degree_terms self.others) (c.view.ensures ∙ ap (λ slots. front_terms slots slot c.left.result.count) c.polynomials.ensures.slots ∙ ap (λ l. front_terms self.slots.now slot l.count) c.left.ensures) ∙
-    degree_is self.others (cells_of self) c.args.at.marks c.args.i self.hold c.requires.1
+    c.degree.ensures.value ∙ ap (degree_terms self.others.count) (c.view.ensures ∙ ap (λ slots. front_terms slots slot c.left.result.count) c.polynomials.ensures.slots ∙ ap (λ l. front_terms self.slots.now slot l.count) c.left.ensures) ∙
+    degree_is self.others.count (cells_of self) c.args.at.marks c.args.i self.hold c.requires.1

@@ -11,4 +11,4 @@ returns c =
     let marks = c.args.at.marks in
     let i = marks.base + marks.done in
     c.is_zero.ensures ∙ ap is_zero_terms c.current.ensures ∙
-    denoting_laws.zero_is (suc self.others) (front_terms self.slots.now i marks.count) _ (front-denotes self.others self.slots.now i marks.count self.hold)
+    denoting_laws.zero_is (suc self.others.count) (front_terms self.slots.now i marks.count) _ (front-denotes self.others.count self.slots.now i marks.count self.hold)

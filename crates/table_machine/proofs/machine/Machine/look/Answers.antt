@@ -10,8 +10,8 @@ returns-then-is_zero-clause-looks c =
     record {
       asked = 0;
       counted = omega arith;
-      moves = subst (λ d. Moves self.others (cells_of self) c.args.at d c.pass_zero.result 0) (sym c.pass_zero.ensures.rest)
-          (moves_zero self.others (cells_of self) c.args.at c.pass_zero.new.self.lefts.now c.pass_zero.result
+      moves = subst (λ d. Moves self.others.count (cells_of self) c.args.at d c.pass_zero.result 0) (sym c.pass_zero.ensures.rest)
+          (moves_zero self.others.count (cells_of self) c.args.at c.pass_zero.new.self.lefts.now c.pass_zero.result
           c.requires.some.0 c.requires.some.1 (sym c.if-is_zero.ensures) c.pass_zero.ensures.passes c.pass_zero.ensures.pending);
     }
 
@@ -21,7 +21,7 @@ returns-in-Some-clause-looks c =
     record {
       asked = 0;
       counted = omega arith;
-      moves = subst (λ d. Moves self.others (cells_of self) c.args.at d c.settle.result 0) (sym c.settle.ensures.rest)
-          (moves-known self.others (cells_of self) c.args.at c.in-Some.sign c.settle.new.self.lefts.now c.settle.result
+      moves = subst (λ d. Moves self.others.count (cells_of self) c.args.at d c.settle.result 0) (sym c.settle.ensures.rest)
+          (moves-known self.others.count (cells_of self) c.args.at c.in-Some.sign c.settle.new.self.lefts.now c.settle.result
           c.requires.some.0 c.requires.some.1 (sym c.if-is_zero.ensures) c.in-Some.ensures c.settle.ensures.settles c.settle.ensures.pending);
     }

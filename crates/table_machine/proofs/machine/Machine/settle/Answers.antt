@@ -7,10 +7,10 @@ use Rattle.table_machine.proofs.machine.Machine.settle.Goals as goal
 
 pub returns-then-eq-clause-settles : goal.returns-then-eq-clause-settles
 returns-then-eq-clause-settles c =
-    let self = c.args.self.now in settles_zero self.others (cells_of self) c.args.at.marks c.args.sign _ self.hold (search rules) c.shorter.ensures.marks
+    let self = c.args.self.now in settles_zero self.others.count (cells_of self) c.args.at.marks c.args.sign _ self.hold (search rules) c.shorter.ensures.marks
 
 pub returns-clause-settles : goal.returns-clause-settles
 returns-clause-settles c =
     let self = c.args.self.now in
-    settles-passed self.others (cells_of self) c.args.at.marks c.args.sign _ _ _ self.hold (search rules) c.left_of-left.ensures
+    settles-passed self.others.count (cells_of self) c.args.at.marks c.args.sign _ _ _ self.hold (search rules) c.left_of-left.ensures
     (subst (λ i. Written left_in i c.left_of-left.result self.lefts.now c.put_left.new.lefts) (ap (λ f. f.slot) c.front.ensures) c.put_left.ensures) c.next.ensures.marks

@@ -9,7 +9,7 @@ use Rattle.table_machine.proofs.polynomials.Polynomials.among_facts.Given as goa
 -- those that were passed tell nothing
 abbrev pub invariant-loop-i : goal.invariant-loop-i
 invariant-loop-i l =
-    let n = l.self.others in
+    let n = l.self.others.count in
     let slots = l.self.slots.now in
     let p = leading n (front_poly n slots l.fn.front.slot l.fn.front.count) in
     among n p (back (λ i. fact_from n slots (fact_in l.facts i)) l.i) ≡ among n p (back (λ i. fact_from n slots (fact_in l.facts i)) l.len)

@@ -12,8 +12,8 @@ use Rattle.wide.proofs.scratch.Scratch.derivative.Goals as goal
 
 pub loop-i-init : goal.loop-i-init
 loop-i-init c = (
-  ap (λ w. w ++ slopes c.args.others (drop c.count_below-i.result (terms_in c.args.polynomial))) c.clear.ensures ∙
-      ap (λ n. slopes c.args.others (drop n (terms_in c.args.polynomial)))
+  ap (λ w. w ++ slopes c.args.others.count (drop c.count_below-i.result (terms_in c.args.polynomial))) c.clear.ensures ∙
+      ap (λ n. slopes c.args.others.count (drop n (terms_in c.args.polynomial)))
       (c.count_below-i.ensures ∙ ap (λ b. count_below b (terms_in c.args.polynomial)) c.digit_place-place.ensures.value),
   omega (arith, ap length c.clear.ensures),
 )
@@ -35,7 +35,7 @@ push-requires c = (omega (arith, c.loop-i.invariant.1, c.loop-i-test.true, c.len
 pub loop-i-preserved : goal.loop-i-preserved
 loop-i-preserved c =
     let i : c.loop-i.i < length (terms_in c.args.polynomial) = omega (arith, c.loop-i-test.true, c.len-i-end.ensures.value) in (
-      slopes-next c.args.others (terms_in c.args.polynomial) (written c.loop-i.self.front) _ c.loop-i.i (monomial_in c.slope.result) i
+      slopes-next c.args.others.count (terms_in c.args.polynomial) (written c.loop-i.self.front) _ c.loop-i.i (monomial_in c.slope.result) i
           (c.slope.ensures.value ∙ ap (λ p. slope_by p (term_at (terms_in c.args.polynomial) c.loop-i.i)) c.digit_place-place.ensures.value) c.push.ensures ∙
           c.loop-i.invariant.0,
       omega (arith, ap length c.push.ensures, length-append (written c.loop-i.self.front) (monomial_in c.slope.result ∷ []), c.loop-i.invariant.1),
@@ -46,5 +46,5 @@ returns c =
     let h : length (terms_in c.args.polynomial) ≤ c.loop-i.i = omega (arith, c.loop-i-test.false, c.len-i-end.ensures.value) in
     let e =
     sym (append-nil (written c.loop-i.self.front)) ∙
-    ap (λ w. written c.loop-i.self.front ++ w) (sym (ap (slopes c.args.others) (drop_of_length-le (terms_in c.args.polynomial) h) ∙ slopes_none c.args.others)) ∙ c.loop-i.invariant.0 in
-    record { value = e; rising = wider _ _ e (derivative-rising c.args.others (2 ^ 19) (terms_in c.args.polynomial) (view-rising c.args.polynomial)) }
+    ap (λ w. written c.loop-i.self.front ++ w) (sym (ap (slopes c.args.others.count) (drop_of_length-le (terms_in c.args.polynomial) h) ∙ slopes_none c.args.others.count)) ∙ c.loop-i.invariant.0 in
+    record { value = e; rising = wider _ _ e (derivative-rising c.args.others.count (2 ^ 19) (terms_in c.args.polynomial) (view-rising c.args.polynomial)) }

@@ -19,7 +19,7 @@ add_product-requires-2 c =
 
 pub returns : goal.returns
 returns c =
-    let n = c.args.others in
+    let n = c.args.others.count in
     let p = terms_in c.args.divisor in
     let s = terms_in c.args.dividend in
     let first = c.add_product.ensures ∙ ap (add_product (stretch_terms c.leading.result) s) c.clear.ensures in
