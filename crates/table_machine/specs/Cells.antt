@@ -1,7 +1,7 @@
 -- The numbers of the machine's arrays. Assumes nothing.
 use Rattle.std.specs.Prelude.{List, ℤ}
 use Rattle.stacks.specs.Memories.{Cells}
-use Rattle.table_machine.specs.declared.machine.Machine.{Machine}
+use Rattle.table_machine.specs.declared.arrays.Machine.{Machine}
 
 abbrev pub cells_of : Machine → Cells
 cells_of m = record { slots = m.slots.now; lefts = m.lefts.now; facts = m.facts.now; frames = m.frames.now; questions = m.questions.now }

@@ -1,13 +1,12 @@
 -- That every slot holds a polynomial has at most one proof, so a struct can keep it. Assumes nothing.
-use Rattle.std.specs.Prelude.{◌≡◌, ℕ, zero, suc, ◌<◌, ◌≤◌, not, T, List, [], ◌∷◌, ℤ}
+use Rattle.std.specs.Prelude.{◌≡◌, ℕ, zero, suc, List, [], ◌∷◌, ℤ}
 use Rattle.std.specs.Coded.{×_prop, Unit-prop, le_prop, Coded, Coded-set, coded_ℕ, coded_ℤ, coded_list, coded×, code_by}
 use Rattle.std.proofs.Common.{refl, ap}
 use Rattle.std.proofs.Math.Dec.{T_prop}
 use Rattle.std.proofs.Math.Decide.{map_dec}
 use Rattle.std.proofs.Math.IntN.{ℤ_discrete}
 use mathlib.Core.HLevel.{hedberg}
-use Rattle.poly.specs.Poly.{Poly, Number, End, Coef, coefs, is_zero_number, all_zero}
-use Rattle.poly.specs.Modest.{magnitude}
+use Rattle.poly.specs.Poly.{Poly, Number, End, Coef, coefs}
 use Rattle.poly.specs.Value.{Depth}
 use Rattle.terms.specs.Monomial.{Monomial, monomial, Rising}
 use Rattle.terms.specs.Sizes.{SizesAtMost}

@@ -1,7 +1,6 @@
 -- How marks change when a polynomial is settled. Assumes nothing.
-use Rattle.std.specs.Prelude.{◌≡◌, ℕ, ◌+◌, ◌-◌, ◌*◌, ◌<◌, ◌≤◌, Bool, true, false, cond, List, length, ℤ, ◌==◌}
+use Rattle.std.specs.Prelude.{◌≡◌, ℕ, ◌+◌, ◌-◌, ◌<◌, cond, List, length, ℤ, ◌==◌}
 use Rattle.field.specs.declared.sign.Sign.{Sign}
-use Rattle.field.specs.declared.sign.Sign.TheVariants.{Neg, Zero, Pos}
 use Rattle.poly.specs.Poly.{Poly}
 use Rattle.terms.specs.LeadingTerms.{degree_terms, prefix_terms}
 use Rattle.sign_table.specs.Tree as sign

@@ -3,7 +3,7 @@ use Rattle.terms.specs.LeadingTerms.{degree_terms}
 use Rattle.table_machine.specs.Cells.{cells_of}
 use Rattle.table_machine.specs.Told.{front_terms}
 use Rattle.table_machine.proofs.Realness.{degree_is}
-use Rattle.table_machine.proofs.machine.Machine.degree_at.Goals as goal
+use Rattle.table_machine.proofs.arrays.Machine.degree_at.Goals as goal
 
 pub returns : goal.returns
 returns c =

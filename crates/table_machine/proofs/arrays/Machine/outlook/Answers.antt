@@ -1,6 +1,6 @@
 use Rattle.table_machine.specs.Cells.{cells_of}
 use Rattle.table_machine.proofs.Foreseen.{none_to_look, none_real, none_below}
-use Rattle.table_machine.proofs.machine.Machine.outlook.Goals as goal
+use Rattle.table_machine.proofs.arrays.Machine.outlook.Goals as goal
 
 pub returns-else-at-gt0-2 : goal.returns-else-at-gt0-2
 returns-else-at-gt0-2 c = none_to_look c.args.self.now.others.count (cells_of c.args.self.now) c.args.at.marks c.if-at-gt0-2.false c.if-at-gt0.true

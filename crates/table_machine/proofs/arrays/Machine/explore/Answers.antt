@@ -1,7 +1,7 @@
 use Rattle.std.proofs.Common.{◌-◌, refl}
 use Rattle.table_machine.specs.Cells.{cells_of}
 use Rattle.table_machine.proofs.Moved.{explored}
-use Rattle.table_machine.proofs.machine.Machine.explore.Goals as goal
+use Rattle.table_machine.proofs.arrays.Machine.explore.Goals as goal
 
 pub returns-clause-explores : goal.returns-clause-explores
 returns-clause-explores c =

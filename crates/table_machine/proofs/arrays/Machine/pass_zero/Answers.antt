@@ -3,7 +3,7 @@ use Rattle.stacks.specs.Written.{Written}
 use Rattle.stacks.specs.Values.{left_in}
 use Rattle.table_machine.specs.Cells.{cells_of}
 use Rattle.table_machine.proofs.Settled.{passes_zero}
-use Rattle.table_machine.proofs.machine.Machine.pass_zero.Goals as goal
+use Rattle.table_machine.proofs.arrays.Machine.pass_zero.Goals as goal
 
 pub returns-clause-passes : goal.returns-clause-passes
 returns-clause-passes c =

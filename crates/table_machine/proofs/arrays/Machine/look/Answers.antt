@@ -2,7 +2,7 @@ use Rattle.std.proofs.Common.{sym, subst, arith}
 use Rattle.table_machine.specs.Cells.{cells_of}
 use Rattle.table_machine.specs.Moving.{Moves}
 use Rattle.table_machine.proofs.Moved.{moves_zero, moves-known}
-use Rattle.table_machine.proofs.machine.Machine.look.Goals as goal
+use Rattle.table_machine.proofs.arrays.Machine.look.Goals as goal
 
 pub returns-then-is_zero-clause-looks : goal.returns-then-is_zero-clause-looks
 returns-then-is_zero-clause-looks c =

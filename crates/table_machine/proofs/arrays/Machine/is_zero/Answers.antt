@@ -3,7 +3,7 @@ use Rattle.terms.specs.Operations.{is_zero_terms}
 use Rattle.storage.proofs.Denoting.{denoting_laws}
 use Rattle.table_machine.specs.Told.{front_terms}
 use Rattle.table_machine.proofs.Telling.{front-denotes}
-use Rattle.table_machine.proofs.machine.Machine.is_zero.Goals as goal
+use Rattle.table_machine.proofs.arrays.Machine.is_zero.Goals as goal
 
 pub returns : goal.returns
 returns c =

@@ -1,6 +1,6 @@
 use Rattle.table_machine.specs.Cells.{cells_of}
 use Rattle.table_machine.proofs.Moved.{moves-asked}
-use Rattle.table_machine.proofs.machine.Machine.ask.Goals as goal
+use Rattle.table_machine.proofs.arrays.Machine.ask.Goals as goal
 
 pub returns-clause-looks : goal.returns-clause-looks
 returns-clause-looks c =

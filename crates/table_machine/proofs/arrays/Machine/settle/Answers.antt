@@ -3,7 +3,7 @@ use Rattle.stacks.specs.Written.{Written}
 use Rattle.stacks.specs.Values.{left_in}
 use Rattle.table_machine.specs.Cells.{cells_of}
 use Rattle.table_machine.proofs.Settled.{settles_zero, settles-passed}
-use Rattle.table_machine.proofs.machine.Machine.settle.Goals as goal
+use Rattle.table_machine.proofs.arrays.Machine.settle.Goals as goal
 
 pub returns-then-eq-clause-settles : goal.returns-then-eq-clause-settles
 returns-then-eq-clause-settles c =

@@ -2,7 +2,7 @@ use Rattle.std.proofs.Common.{sym, refl, ap, ◌∙◌}
 use Rattle.table_machine.specs.Cells.{cells_of}
 use Rattle.table_machine.specs.Moving.{is_below}
 use Rattle.table_machine.proofs.Moved.{returned_above, returned_at, finishes}
-use Rattle.table_machine.proofs.machine.Machine.next_branch.Goals as goal
+use Rattle.table_machine.proofs.arrays.Machine.next_branch.Goals as goal
 
 pub returns-in-Above-clause-returns : goal.returns-in-Above-clause-returns
 returns-in-Above-clause-returns c =

@@ -1,8 +1,8 @@
 use Rattle.std.proofs.Common.{sym, ap, arith}
 use Rattle.table_machine.specs.Cells.{cells_of}
 use Rattle.table_machine.proofs.Realness.{real_one, plain_one, found}
-use Rattle.table_machine.proofs.machine.Machine.highest_real.Goals as goal
-use Rattle.table_machine.proofs.machine.Machine.highest_real.Goals.{then-left-gt0, else-left-gt0}
+use Rattle.table_machine.proofs.arrays.Machine.highest_real.Goals as goal
+use Rattle.table_machine.proofs.arrays.Machine.highest_real.Goals.{then-left-gt0, else-left-gt0}
 
 pub loop-i-preserved : goal.loop-i-preserved
 loop-i-preserved c =
