@@ -16,7 +16,7 @@ use stacks::arrays::{left_at, question_at};
 use stacks::marks::{Left, Question};
 
 impl Machine<'_> {
-    pub fn polynomials(&self) -> Polynomials
+    pub(super) fn polynomials(&self) -> Polynomials
         ensures others { result.others ≡ self.now.others }
         ensures slots { result.slots.now ≡ self.now.slots.now }
     {
@@ -33,14 +33,14 @@ impl Machine<'_> {
         self.polynomials().view(at.front())
     }
 
-    pub fn is_zero(&self, at: Facing) -> bool
+    pub(super) fn is_zero(&self, at: Facing) -> bool
         ensures { result ≡ is_zero (current_poly self.now.others.count self.now.slots.now at.marks) }
     {
         self.current(at).is_zero()
     }
 
     // What the facts tell of its leading coefficient.
-    pub fn known(&self, at: Facing) -> Option<Sign>
+    pub(super) fn known(&self, at: Facing) -> Option<Sign>
         ensures { known_of result ≡ current_known self.now.others.count self.now.slots.now self.now.facts.now at.marks }
     {
         self.polynomials()
@@ -48,7 +48,7 @@ impl Machine<'_> {
     }
 
     // At the next polynomial.
-    pub fn next(&self, at: Facing) -> Facing
+    pub(super) fn next(&self, at: Facing) -> Facing
         requires { (0 < at.marks.looks) × (0 < at.marks.ahead) }
         ensures marks { result.marks ≡ next_marks self.now.slots.now at.marks }
         ensures pending { result.pending ≡ at.pending }
@@ -57,13 +57,13 @@ impl Machine<'_> {
     }
 
     // What is left of the polynomial in a slot.
-    pub fn left(&self, slot: u16) -> Left
+    pub(super) fn left(&self, slot: u16) -> Left
         ensures { result ≡ left_in self.now.lefts.now slot }
     {
         left_at(self.lefts, slot)
     }
 
-    pub fn question(&self, i: u16) -> Question
+    pub(super) fn question(&self, i: u16) -> Question
         ensures { result ≡ question_in self.now.questions.now i }
     {
         question_at(self.questions, i)
