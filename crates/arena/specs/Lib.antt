@@ -1,2 +1,3 @@
--- How an arena's numbers change.
+-- How an arena's numbers change, and which of them stand.
 pub mod Growth
+pub mod Standing

@@ -6,6 +6,7 @@ ghost use Rattle.arena.specs.Growth.{Grown, pushed, all_pushed, given};
 #[derive(Clone, Copy, PartialEq, Eq, Debug)]
 pub struct Full;
 
+// That the loan stays the same (`lent`) stands with each method: it ties the value after a call to the one before, which no ghost field can.
 #[derive(Drop)]
 pub struct Arena<'a> {
     cells: &'a mut [i64],
@@ -68,9 +69,9 @@ impl Arena<'_> {
         if self.room() < values.len() {
             return Err(Full);
         }
-        for value in values {
-            self.put(*value);
-        }
+        let top = self.top + values.len();
+        self.cells[self.top..top].copy_from_slice(values);
+        self.top = top;
         Ok(())
     }
 
@@ -78,11 +79,7 @@ impl Arena<'_> {
     pub fn read(&self, i: usize) -> Option<i64>
         ensures { result ≡ given i self.now.top self.now.cells.now }
     {
-        if i < self.top {
-            Some(self.cells[i])
-        } else {
-            None
-        }
+        self.part(0, self.top).get(i).copied()
     }
 
     // So many of the numbers that stand, from this place on.

@@ -1,8 +1,9 @@
 -- Names noted one by one, and the polynomials that they name.
-use Rattle.std.proofs.Common.{◌≡◌, ℕ, ◌+◌, ◌*◌, ◌<◌, ◌≤◌, min, Bool, true, false, cond, ◌||◌, T, eqb, List, [], ◌∷◌, ◌++◌, map, reverse, length, get_or, drop, ℤ, pos, negsuc, Ok, Err, Result, sym, refl, ap, ◌∙◌, subst, subst₂, add-one, arith, drop-cons}
+use Rattle.std.proofs.Common.{◌≡◌, ℕ, ◌+◌, ◌*◌, ◌<◌, ◌≤◌, min, Bool, true, false, cond, ◌||◌, T, eqb, List, [], ◌∷◌, ◌++◌, map, reverse, length, get_or, ℤ, pos, negsuc, Ok, Err, Result, sym, refl, ap, ◌∙◌, subst, subst₂, arith}
+use Rattle.std.proofs.Math.Bool.{or_assoc}
 use mathlib.Core.List.{reverse-cons, reverse-append, map-append}
 use lib.ListN.{length-map}
-use Rattle.std.proofs.lemmas.List.{drop_all, length-reverse}
+use Rattle.std.proofs.lemmas.List.{length-reverse}
 use Rattle.std.proofs.lemmas.Bool.Decides.{nat_tests}
 use native.Mathlib.Decide.{ℕ_discrete}
 use Rattle.arena.specs.declared.arena.Full.{Full}
@@ -18,7 +19,7 @@ use Rattle.question.specs.declared.tree.Question.{Question}
 use Rattle.question.specs.Nodes.{node_at}
 use Rattle.question.specs.Denote.{Earlier, IsTree}
 use Rattle.question.specs.Collect.{has_name, named_by, AllNamed, Apart, Notes, Collected, Collects}
-use Rattle.question.proofs.Denote.{small_of_small}
+use Rattle.question.proofs.Nodes.{small_of_small}
 
 holds : (b : Bool) → T b → b ≡ true
 holds true t = refl
@@ -28,30 +29,11 @@ fails : (b : Bool) → (T b → ⊥) → b ≡ false
 fails true f = absurd (f tt)
 fails false f = refl
 
-or_assoc : (a b c : Bool) → ((a || b) || c) ≡ (a || (b || c))
-or_assoc true b c = refl
-or_assoc false b c = refl
-
 or_swap : (a b : Bool) → (a || (b || false)) ≡ (b || a)
 or_swap true true = refl
 or_swap true false = refl
 or_swap false true = refl
 or_swap false false = refl
-
--- the name at i, and those after it
-name_at : (k : ℕ) (zs : List ℤ) (i : ℕ) → i < length zs → has_name k (drop i zs) ≡ (eqb (small_of (get_or zs i (pos 0))) k || has_name k (drop (i + 1) zs))
-name_at k zs i h = rw (add-one, drop-cons zs i (pos 0))
-
-pub name_found : (k : ℕ) (zs : List ℤ) (i : ℕ) → i < length zs → small_of (get_or zs i (pos 0)) ≡ k → has_name k (drop i zs) ≡ true
-name_found k zs i h e =
-    let hit : eqb (small_of (get_or zs i (pos 0))) k ≡ true = grind (arith, nat_tests) in name_at k zs i h ∙ ap (λ b. b || has_name k (drop (i + 1) zs)) hit
-
-pub name_passed : (k : ℕ) (zs : List ℤ) (i : ℕ) → i < length zs → (small_of (get_or zs i (pos 0)) ≡ k → ⊥) → has_name k (drop i zs) ≡ has_name k (drop (i + 1) zs)
-name_passed k zs i h n =
-    let missed : eqb (small_of (get_or zs i (pos 0))) k ≡ false = grind (arith, nat_tests) in name_at k zs i h ∙ ap (λ b. b || has_name k (drop (i + 1) zs)) missed
-
-pub name_ended : (k : ℕ) (zs : List ℤ) (i : ℕ) → length zs ≤ i → has_name k (drop i zs) ≡ false
-name_ended k zs i h = ap (has_name k) (drop_all i zs h)
 
 -- a polynomial is among those named just where its name is
 module _ (n : ℕ) (ps : List Poly) (apart : Apart n ps) (k : ℕ) (known : k < length ps) (small : k < 65536) where
@@ -175,9 +157,9 @@ module _ (cells : List ℤ) (limit : ℕ) (t : Tree) (before : List ℤ) (room :
         ((p : Poly) (a b c : sign.Tree) → get_or ps q.polynomial End ≡ p → q.polynomial < length ps → IsTree ps cells a q.below → IsTree ps cells b q.at → IsTree ps cells c q.above →
         Earlier i q.below → Earlier i q.at → Earlier i q.above → P (sign.Ask p a b c)) → P s
     unfolding IsTree
-    opened P ps sign.Yes h k = let z : ◌≡◌ {A = ℕ} 0 1 = cc in absurd (omega arith)
-    opened P ps sign.No h k = let z : ◌≡◌ {A = ℕ} 0 1 = cc in absurd (omega arith)
-    opened P ps sign.GivenUp h k = let z : ◌≡◌ {A = ℕ} 0 1 = cc in absurd (omega arith)
+    opened P ps sign.Yes h k = absurd (cc)
+    opened P ps sign.No h k = absurd (cc)
+    opened P ps sign.GivenUp h k = absurd (cc)
     opened P ps (sign.Ask p a b c) h k =
         let there = h.is in
         let same : h.place ≡ i = cc in

@@ -11,7 +11,7 @@ use Rattle.question.specs.declared.tree.Question.{Question}
 use Rattle.question.specs.Cells.{cell_of, tree_at, small_of}
 use Rattle.question.specs.Nodes.{node_at, node_cells, capped, weight_of, asking}
 use Rattle.question.specs.Denote.{Earlier, IsTree}
-use Rattle.question.proofs.Nodes.{weight-inside}
+use Rattle.question.proofs.Nodes.{small_of_small, weight-inside}
 
 -- the question that five numbers are
 abbrev node : ℤ → ℤ → ℤ → ℤ → ℤ → Question
@@ -31,9 +31,6 @@ tree_of_cell Yes e = refl
 tree_of_cell No e = refl
 tree_of_cell GivenUp e = refl
 tree_of_cell (Numbered j) e = grind (arith, nat_tests)
-
-pub small_of_small : (n : ℕ) → n < 65536 → small_of (pos n) ≡ n
-small_of_small n h = grind (arith, nat_tests)
 
 -- the question just behind those that stand
 pub node_at-new : (cells : List ℤ) (len : ℕ) (q : Question) → length cells ≡ 5 * len → q.polynomial < 65536 → q.weight < 65536 →

@@ -3,7 +3,7 @@ use Rattle.std.proofs.Common.{◌≡◌, ℕ, ◌+◌, ◌*◌, ◌<◌, ◌≤�
 use Rattle.field.specs.declared.sign.Sign.{Sign}
 use Rattle.field.specs.declared.sign.Sign.TheVariants.{Neg, Zero, Pos}
 use Rattle.sign_table.specs.Tree as sign
-use Rattle.question.specs.declared.follow.Answer.{Answer}
+use Rattle.words.specs.declared.answer.Answer.{Answer}
 use Rattle.question.specs.declared.tree.Tree.{Tree}
 use Rattle.question.specs.declared.tree.Tree.TheVariants.{Yes, No, GivenUp, Question as Numbered}
 use Rattle.question.specs.Nodes.{node_at, chosen}
@@ -14,30 +14,30 @@ module _ (cells : List ℤ) (limit : ℕ) (t : Tree) (signs : List Sign) where
   pub follows_yes : t ≡ Yes → Follows cells limit t signs Answer.Yes
   unfolding IsTree answer_by
   follows_yes e ps sg sign.Yes h l m = refl
-  follows_yes e ps sg sign.No h l m = let z : ◌≡◌ {A = ℕ} 0 1 = cc in absurd (omega arith)
-  follows_yes e ps sg sign.GivenUp h l m = let z : ◌≡◌ {A = ℕ} 0 1 = cc in absurd (omega arith)
-  follows_yes e ps sg (sign.Ask p a b c) h l m = let i = h.is in let z : ◌≡◌ {A = ℕ} 0 1 = cc in absurd (omega arith)
+  follows_yes e ps sg sign.No h l m = absurd (cc)
+  follows_yes e ps sg sign.GivenUp h l m = absurd (cc)
+  follows_yes e ps sg (sign.Ask p a b c) h l m = let i = h.is in absurd (cc)
 
   pub follows_no : t ≡ No → Follows cells limit t signs Answer.No
   unfolding IsTree answer_by
-  follows_no e ps sg sign.Yes h l m = let z : ◌≡◌ {A = ℕ} 0 1 = cc in absurd (omega arith)
+  follows_no e ps sg sign.Yes h l m = absurd (cc)
   follows_no e ps sg sign.No h l m = refl
-  follows_no e ps sg sign.GivenUp h l m = let z : ◌≡◌ {A = ℕ} 0 1 = cc in absurd (omega arith)
-  follows_no e ps sg (sign.Ask p a b c) h l m = let i = h.is in let z : ◌≡◌ {A = ℕ} 0 1 = cc in absurd (omega arith)
+  follows_no e ps sg sign.GivenUp h l m = absurd (cc)
+  follows_no e ps sg (sign.Ask p a b c) h l m = let i = h.is in absurd (cc)
 
   pub follows_given_up : t ≡ GivenUp → Follows cells limit t signs Answer.GivenUp
   unfolding IsTree answer_by
-  follows_given_up e ps sg sign.Yes h l m = let z : ◌≡◌ {A = ℕ} 0 1 = cc in absurd (omega arith)
-  follows_given_up e ps sg sign.No h l m = let z : ◌≡◌ {A = ℕ} 0 1 = cc in absurd (omega arith)
+  follows_given_up e ps sg sign.Yes h l m = absurd (cc)
+  follows_given_up e ps sg sign.No h l m = absurd (cc)
   follows_given_up e ps sg sign.GivenUp h l m = refl
-  follows_given_up e ps sg (sign.Ask p a b c) h l m = let i = h.is in let z : ◌≡◌ {A = ℕ} 0 1 = cc in absurd (omega arith)
+  follows_given_up e ps sg (sign.Ask p a b c) h l m = let i = h.is in absurd (cc)
 
   -- a question that was never asked, or not before the limit, is no tree
   pub follows_beyond : (i len : ℕ) → t ≡ Numbered i → length cells ≤ 5 * len → min limit len ≤ i → (r : Answer) → Follows cells limit t signs r
   unfolding IsTree
-  follows_beyond i len e long o r ps sg sign.Yes h l m = let z : ◌≡◌ {A = ℕ} 0 1 = cc in absurd (omega arith)
-  follows_beyond i len e long o r ps sg sign.No h l m = let z : ◌≡◌ {A = ℕ} 0 1 = cc in absurd (omega arith)
-  follows_beyond i len e long o r ps sg sign.GivenUp h l m = let z : ◌≡◌ {A = ℕ} 0 1 = cc in absurd (omega arith)
+  follows_beyond i len e long o r ps sg sign.Yes h l m = absurd (cc)
+  follows_beyond i len e long o r ps sg sign.No h l m = absurd (cc)
+  follows_beyond i len e long o r ps sg sign.GivenUp h l m = absurd (cc)
   follows_beyond i len e long o r ps sg (sign.Ask p a b c) h l m =
       let is = h.is in
       let same : h.place ≡ i = cc in
@@ -47,9 +47,9 @@ module _ (cells : List ℤ) (limit : ℕ) (t : Tree) (signs : List Sign) where
   pub follows_question : (i : ℕ) → t ≡ Numbered i → (s : Sign) → s ≡ get_or signs (node_at cells i).polynomial Zero → (r : Answer) →
       Follows cells i (chosen (node_at cells i) s) signs r → Follows cells limit t signs r
   unfolding IsTree answer_by
-  follows_question i e s at r f ps sg sign.Yes h l m = let z : ◌≡◌ {A = ℕ} 0 1 = cc in absurd (omega arith)
-  follows_question i e s at r f ps sg sign.No h l m = let z : ◌≡◌ {A = ℕ} 0 1 = cc in absurd (omega arith)
-  follows_question i e s at r f ps sg sign.GivenUp h l m = let z : ◌≡◌ {A = ℕ} 0 1 = cc in absurd (omega arith)
+  follows_question i e s at r f ps sg sign.Yes h l m = absurd (cc)
+  follows_question i e s at r f ps sg sign.No h l m = absurd (cc)
+  follows_question i e s at r f ps sg sign.GivenUp h l m = absurd (cc)
   follows_question i e s at r f ps sg (sign.Ask p a b c) h l m =
       let is = h.is in
       let same : h.place ≡ i = cc in

@@ -1,24 +1,38 @@
 -- Reading questions out of numbers, and what stays as more of them are asked.
-use Rattle.std.proofs.Common.{◌≡◌, ℕ, ◌+◌, ◌*◌, ◌<◌, ◌≤◌, Bool, true, false, cond, T, ltb, leb, List, length, get_or, take, ℤ, pos, Some, None, sym, refl, ◌∙◌, arith, le→leb, lt→ltb, length-take, get_or-take}
-use Rattle.arena.specs.Growth.{given}
+use Rattle.std.proofs.Common.{◌≡◌, ℕ, ◌+◌, ◌*◌, ◌<◌, ◌≤◌, leb, List, length, get_or, take, drop, ℤ, pos, sym, ap, ◌∙◌, add-zero, arith, le-leb, get_or-take}
+use Rattle.std.proofs.lemmas.Bool.{cond-true}
+use Rattle.std.proofs.lemmas.Bool.Decides.{nat_tests}
+use Rattle.std.proofs.lemmas.List.{get_or-drop}
 use Rattle.question.specs.declared.tree.Tree.TheVariants.{Question as Numbered}
-use Rattle.question.specs.Nodes.{node_at, weight_of}
+use Rattle.question.specs.declared.tree.Question.{Question}
+use Rattle.question.specs.Cells.{cell_of, tree_at, small_of}
+use Rattle.question.specs.Nodes.{node_of, node_cells, node_at, weight_of}
 
--- what is read below the top
-pub read_below : (i top : ℕ) (cells : List ℤ) (z : ℤ) → i < top → Some z ≡ given i top cells → z ≡ get_or (take top cells) i (pos 0)
-read_below i top cells z h e = read (ltb i top) (lt→ltb i top h) e ∙ sym (get_or-take top cells i (pos 0) h)
-  where
-    read : (b : Bool) → T b → Some z ≡ cond b (Some (get_or cells i (pos 0))) None → z ≡ get_or cells i (pos 0)
-    read true t e = cc
-    read false t e = absurd t
+-- the part of the numbers that a question takes, of those that stand
+pub node_in-part : (top : ℕ) (cells : List ℤ) (i : ℕ) → 5 * i + 5 ≤ top → node_of (take 5 (drop (5 * i) cells)) ≡ node_at (take top cells) i
+node_in-part top cells i h =
+    let there : (d : ℕ) → d < 5 → get_or (take 5 (drop (5 * i) cells)) d (pos 0) ≡ get_or (take top cells) (5 * i + d) (pos 0) =
+    λ d l. get_or-take 5 (drop (5 * i) cells) d (pos 0) l ∙ get_or-drop (5 * i) cells d (pos 0) ∙ sym (get_or-take top cells (5 * i + d) (pos 0) (omega arith)) in
+    let first : get_or (take 5 (drop (5 * i) cells)) 0 (pos 0) ≡ get_or (take top cells) (5 * i) (pos 0) =
+    there 0 (omega arith) ∙ ap (λ k. get_or (take top cells) k (pos 0)) (add-zero (5 * i)) in
+    λ j. record {
+      polynomial = small_of (first j);
+      below = tree_at (there 1 (omega arith) j);
+      at = tree_at (there 2 (omega arith) j);
+      above = tree_at (there 3 (omega arith) j);
+      weight = small_of (there 4 (omega arith) j);
+    }
 
--- what is chosen where a test passes
-passed : {A : Type 0} (b : Bool) (x y : A) → T b → cond b x y ≡ x
-passed true x y t = refl
-passed false x y t = absurd t
+pub small_of_small : (n : ℕ) → n < 65536 → small_of (pos n) ≡ n
+small_of_small n h = grind (arith, nat_tests)
+
+-- the numbers of a question read back
+pub node_back : (q : Question) → q.polynomial < 65536 → q.weight < 65536 → tree_at (cell_of q.below) ≡ q.below → tree_at (cell_of q.at) ≡ q.at → tree_at (cell_of q.above) ≡ q.above →
+    node_of (node_cells q) ≡ q
+node_back q few light below at above =
+    let polynomial = small_of_small q.polynomial few in
+    let weight = small_of_small q.weight light in
+    λ j. record { polynomial = polynomial j; below = below j; at = at j; above = above j; weight = weight j }
 
 pub weight-inside : (cells : List ℤ) (i : ℕ) → 5 * i + 5 ≤ length cells → weight_of cells (Numbered i) ≡ (node_at cells i).weight
-weight-inside cells i h = passed (leb (5 * i + 5) (length cells)) (node_at cells i).weight 0 (le→leb (5 * i + 5) (length cells) h)
-
-pub length-below : (top : ℕ) (cells : List ℤ) → top ≤ length cells → length (take top cells) ≡ top
-length-below top cells h = length-take top cells ∙ omega arith
+weight-inside cells i h = cond-true (leb (5 * i + 5) (length cells)) (node_at cells i).weight 0 (le-leb (5 * i + 5) (length cells) h)

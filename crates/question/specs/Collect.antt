@@ -1,5 +1,6 @@
 -- The polynomials that a tree asks about, by the numbers that name them. Assumes nothing.
-use Rattle.std.specs.Prelude.{◌≡◌, ℕ, ◌<◌, Bool, false, cond, ◌||◌, T, List, [], ◌∷◌, ◌++◌, map, reverse, length, get_or, ℤ, pos, Ok, Err, Result, ◌==◌, slice_index_or}
+use Rattle.std.specs.Prelude.{◌≡◌, ℕ, ◌<◌, Bool, false, cond, T, List, [], ◌∷◌, ◌++◌, map, reverse, length, get_or, ℤ, pos, Ok, Err, Result, ◌==◌, slice_index_or}
+use Rattle.std.specs.List.{list_any}
 use Rattle.poly.specs.Poly.{Poly, End}
 use Rattle.poly.specs.Arithmetic.{same}
 use Rattle.sign_table.specs.Tree as sign
@@ -10,8 +11,7 @@ use Rattle.question.specs.Denote.{Earlier, IsTree}
 
 -- whether a number is among these
 abbrev pub has_name : ℕ → List ℤ → Bool
-has_name k [] = false
-has_name k (z ∷ zs) = small_of z == k || has_name k zs
+has_name k = list_any (λ z. small_of z == k)
 
 -- a name behind the others, unless it stands there already
 abbrev pub with_name : ℕ → List ℤ → List ℤ

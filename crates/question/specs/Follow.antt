@@ -4,8 +4,8 @@ use Rattle.field.specs.declared.sign.Sign.{Sign}
 use Rattle.field.specs.declared.sign.Sign.TheVariants.{Zero}
 use Rattle.poly.specs.Poly.{Poly, End}
 use Rattle.sign_table.specs.Tree as sign
-use Rattle.question.specs.declared.follow.Answer.{Answer}
-use Rattle.question.specs.declared.follow.Answer.TheVariants.{Yes, No, GivenUp}
+use Rattle.words.specs.declared.answer.Answer.{Answer}
+use Rattle.words.specs.declared.answer.Answer.TheVariants.{Yes, No, GivenUp}
 use Rattle.question.specs.declared.tree.Tree.{Tree}
 use Rattle.question.specs.Denote.{Earlier, IsTree}
 

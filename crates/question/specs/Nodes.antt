@@ -8,6 +8,16 @@ use Rattle.question.specs.declared.tree.Tree.TheVariants.{Yes, No, GivenUp, Ques
 use Rattle.question.specs.declared.tree.Question.{Question}
 use Rattle.question.specs.Cells.{cell_of, tree_at, small_of}
 
+-- the question that five numbers stand for
+abbrev pub node_of : List ℤ → Question
+node_of cells = record {
+  polynomial = small_of (slice_index_or cells 0 (pos 0));
+  below = tree_at (slice_index_or cells 1 (pos 0));
+  at = tree_at (slice_index_or cells 2 (pos 0));
+  above = tree_at (slice_index_or cells 3 (pos 0));
+  weight = small_of (slice_index_or cells 4 (pos 0));
+}
+
 -- question i of those that these numbers are
 abbrev pub node_at : List ℤ → ℕ → Question
 node_at cells i = record {

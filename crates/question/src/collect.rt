@@ -1,6 +1,8 @@
 // The polynomials that a tree asks about, each once, in the order of asking.
-ghost use Rattle.std.specs.Prelude.{◌≡◌, length, take};
+ghost use Rattle.std.specs.Prelude.{◌≡◌, length};
+ghost use Rattle.arena.specs.Standing.{standing};
 ghost use Rattle.question.specs.Collect.{has_name, Notes, Collects};
+ghost use Rattle.question.specs.Numbers.{numbers};
 
 use crate::questions::Questions;
 use crate::tree::{Tree, small};
@@ -10,17 +12,12 @@ use arena::arena::{Arena, Full};
 fn has_name(names: &[i64], k: u16) -> bool
     ensures { result ≡ has_name k names.now }
 {
-    for z in names {
-        if small(*z) == k {
-            return true;
-        }
-    }
-    false
+    names.iter().any(|z| small(*z) == k)
 }
 
 // Notes a polynomial's name, unless it was noted before; refused where there is no room for one more.
 fn note(found: &mut Arena, k: u16) -> Result<(), Full>
-    ensures stands { Notes result k (take found.old.top found.old.cells.now) (length found.old.cells.now) (take found.new.top found.new.cells.now) }
+    ensures stands { Notes result k (standing found.old) (length found.old.cells.now) (standing found.new) }
     ensures long { length found.new.cells.now ≡ length found.old.cells.now }
     ensures lent { found.new.cells.ghost_name ≡ found.old.cells.ghost_name }
 {
@@ -32,7 +29,7 @@ fn note(found: &mut Arena, k: u16) -> Result<(), Full>
 
 // Notes all polynomials that a tree asks about, those of the last end first; refused where they are more than there is room for.
 pub fn collect(questions: &Questions, tree: Tree, found: &mut Arena) -> Result<(), Full>
-    ensures stands { Collects (take questions.now.arena.top questions.now.arena.cells.now) questions.now.len tree (take found.old.top found.old.cells.now) result (take found.new.top found.new.cells.now) (length found.old.cells.now) }
+    ensures stands { Collects (numbers questions.now) questions.now.len tree (standing found.old) result (standing found.new) (length found.old.cells.now) }
     ensures long { length found.new.cells.now ≡ length found.old.cells.now }
     ensures lent { found.new.cells.ghost_name ≡ found.old.cells.ghost_name }
 {
@@ -46,7 +43,7 @@ fn collect_below(
     limit: usize,
     found: &mut Arena,
 ) -> Result<(), Full>
-    ensures stands { Collects (take questions.now.arena.top questions.now.arena.cells.now) limit tree (take found.old.top found.old.cells.now) result (take found.new.top found.new.cells.now) (length found.old.cells.now) }
+    ensures stands { Collects (numbers questions.now) limit tree (standing found.old) result (standing found.new) (length found.old.cells.now) }
     ensures long { length found.new.cells.now ≡ length found.old.cells.now }
     ensures lent { found.new.cells.ghost_name ≡ found.old.cells.ghost_name }
 {

@@ -1,41 +1,31 @@
 // What a tree says where its polynomials have given signs.
-ghost use Rattle.std.specs.Prelude.{◌≡◌, take, slice_index_or};
+ghost use Rattle.std.specs.Prelude.{◌≡◌, slice_index_or};
 ghost use Rattle.field.specs.declared.sign.Sign.TheVariants.{Zero};
 ghost use Rattle.question.specs.Follow.{Follows};
+ghost use Rattle.question.specs.Numbers.{numbers};
 
 use crate::questions::Questions;
 use crate::tree::Tree;
 use field::sign::Sign;
-
-#[derive(Clone, Copy, PartialEq, Eq, Debug)]
-pub enum Answer {
-    Yes,
-    No,
-    GivenUp,
-}
+use words::answer::Answer;
 
 // The sign at a place; zero beyond the last.
 fn sign_at(signs: &[Sign], k: u16) -> Sign
     ensures { result ≡ slice_index_or signs.now k Zero }
 {
-    let k = k as usize;
-    if k < signs.len() {
-        signs[k]
-    } else {
-        Sign::Zero
-    }
+    signs.get(k as usize).copied().unwrap_or(Sign::Zero)
 }
 
 // The answer of a tree, by the signs of its polynomials. A tree that names a question which was never asked is given up.
 pub fn follow(questions: &Questions, tree: Tree, signs: &[Sign]) -> Answer
-    ensures { Follows (take questions.now.arena.top questions.now.arena.cells.now) questions.now.len tree signs.now result }
+    ensures { Follows (numbers questions.now) questions.now.len tree signs.now result }
 {
     follow_below(questions, tree, signs, questions.len())
 }
 
 // The same for a tree whose questions were all asked before number `limit`.
 fn follow_below(questions: &Questions, tree: Tree, signs: &[Sign], limit: usize) -> Answer
-    ensures { Follows (take questions.now.arena.top questions.now.arena.cells.now) limit tree signs.now result }
+    ensures { Follows (numbers questions.now) limit tree signs.now result }
 {
     let i = match tree {
         Tree::Yes => return Answer::Yes,

@@ -1,5 +1,5 @@
 -- The polynomial that is read in a slot. Assumes nothing.
-use Rattle.std.proofs.Common.{◌≡◌, ℕ, zero, suc, ◌+◌, ◌*◌, ◌<◌, ◌≤◌, min, List, [], ◌∷◌, length, get_or, take, drop, ℤ, pos, sym, ap, ◌∙◌, inl, inr, arith, length-drop, length-take, get_or-take}
+use Rattle.std.proofs.Common.{◌≡◌, ℕ, ◌+◌, ◌*◌, ◌<◌, ◌≤◌, min, List, [], ◌∷◌, length, get_or, take, drop, ℤ, pos, ap, ◌∙◌, inl, inr, arith, length-drop, length-take, get_or-take, take_all}
 use Rattle.std.proofs.lemmas.List.{ext_get_or, get_or-drop, length-take-le}
 use Rattle.question.specs.Cells.{small_of}
 use Rattle.stacks.specs.Written.{Put, Written, part}
@@ -7,20 +7,13 @@ use Rattle.stacks.specs.Slots.{slot_of, slot_in}
 use Rattle.stacks.proofs.Puts.{get_d_part, length_part, part_apart}
 use Rattle.stacks.proofs.Trips.{small_is}
 
-pub take_min : (a b : ℕ) (l : List ℤ) → take a (take b l) ≡ take (min a b) l
-take_min zero b l = let e : min zero b ≡ zero = omega arith in ap (λ k. take k l) (sym e)
-take_min (suc a) zero l = let e : min (suc a) zero ≡ zero = omega arith in ap (λ k. take k l) (sym e)
-take_min (suc a) (suc b) [] = let e : min (suc a) (suc b) ≡ suc (min a b) = omega arith in ap (λ k. take k []) (sym e)
-take_min (suc a) (suc b) (x ∷ l) = let e : min (suc a) (suc b) ≡ suc (min a b) = omega arith in ap (λ k. x ∷ k) (take_min a b l) ∙ ap (λ k. take k (x ∷ l)) (sym e)
-
-pub front-is : (zs : List ℤ) (c s m len : ℕ) → s ≡ small_of (get_or zs 0 (pos 0)) → m ≡ min c s → len ≡ min m 64 → take len (drop 1 zs) ≡ take c (slot_of zs)
-front-is zs c s m len e p q =
-    let t = small_of (get_or zs 0 (pos 0)) in
-    let k : len ≡ min c (min t 64) = omega arith in
-    ap (λ j. take j (drop 1 zs)) k ∙ sym (take_min c (min t 64) (drop 1 zs))
-
-pub slot_few : (cells : List ℤ) (i : ℕ) → length (slot_in cells i) ≤ 64
-slot_few cells i = let zs = part 65 (65 * i) cells in let f = length-take (min (small_of (get_or zs 0 (pos 0))) 64) (drop 1 zs) in omega arith
+-- no slot has more than 64 monomials, so the first 64 are all
+pub all_of_slot : (cells : List ℤ) (i : ℕ) (front : List ℤ) → front ≡ take 64 (slot_in cells i) → (length front ≡ length (slot_in cells i)) × (length front ≤ 64)
+all_of_slot cells i front e =
+    let zs = part 65 (65 * i) cells in
+    let f = length-take (min (small_of (get_or zs 0 (pos 0))) 64) (drop 1 zs) in
+    let few : length (slot_in cells i) ≤ 64 = omega arith in
+    let all = ap length (e ∙ take_all 64 (slot_in cells i) few) in (all, omega arith)
 
 pub slot_written : (i : ℕ) (z : ℤ) (values before mid after : List ℤ) → z ≡ pos (length values) → length values ≤ 64 → 65 * i + 65 ≤ length before →
     Put (65 * i) (z ∷ []) before mid → Put (65 * i + 1) values mid after → Written slot_in i values before after

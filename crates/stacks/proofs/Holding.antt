@@ -1,6 +1,7 @@
 -- Slots hold polynomials, and so do their fronts. Assumes nothing.
-use Rattle.std.proofs.Common.{◌≡◌, ℕ, suc, ◌+◌, ◌*◌, ◌<◌, ◌≤◌, min, ◌⊎◌, List, [], length, get_or, take, drop, ℤ, pos, sym, refl, ap, ◌∙◌, subst, inl, inr, eq-or-lt_of_le, arith}
-use Rattle.std.proofs.lemmas.List.{get_or_past}
+use Rattle.std.proofs.Common.{◌≡◌, ℕ, suc, ◌+◌, ◌*◌, ◌<◌, min, ◌⊎◌, List, [], get_or, take, drop, ℤ, pos, sym, refl, ap, ◌∙◌, subst, inl, inr, eq-or-lt_of_le, arith}
+use Rattle.std.proofs.lemmas.List.{get_or_past, get_or-replicate}
+use Rattle.std.proofs.Math.ListN.{replicate, length-replicate}
 use Rattle.question.specs.Cells.{small_of}
 use Rattle.poly.specs.Poly.{Poly, End}
 use Rattle.terms.specs.Monomial.{Monomial, flat, Rising}
@@ -49,14 +50,12 @@ pub slot_laws : SlotLaws
 slot_laws = record { spelt_is = spelt_is; holds = holds; front_holds = front_holds; none_holds = none_holds; written_holds = written_holds }
 
 -- nothing but zeros
-pub zeros_hold : (cells : List ℤ) (len : ℕ) → ((k : ℕ) → k < len → get_or cells k (pos 0) ≡ pos 0) → length cells ≤ len → (n : ℕ) → AllHold n cells
-zeros_hold cells len z l n i = subst (Holds n) (sym none) (none_holds n)
+pub zeros_hold : (len n : ℕ) → AllHold n (replicate len (pos 0))
+zeros_hold len n i = subst (Holds n) (sym none) (none_holds n)
   where
-    all : (k : ℕ) → get_or cells k (pos 0) ≡ pos 0
-    all k = by_less k len (z k) (λ h. get_or_past cells k (pos 0) (omega arith))
-
-    none : slot_in cells i ≡ []
+    none : slot_in (replicate len (pos 0)) i ≡ []
     none =
-        let zs = part 65 (65 * i) cells in
-        let e : get_or zs 0 (pos 0) ≡ pos 0 = get_d_part 65 (65 * i) 0 cells (omega arith) ∙ all (65 * i + 0) in
+        let zs = part 65 (65 * i) (replicate len (pos 0)) in
+        let all : (k : ℕ) → get_or (replicate len (pos 0)) k (pos 0) ≡ pos 0 = λ k. by_less k len (get_or-replicate len k (pos 0) (pos 0)) (λ h. get_or_past (replicate len (pos 0)) k (pos 0) (omega (arith, length-replicate len (pos 0)))) in
+        let e : get_or zs 0 (pos 0) ≡ pos 0 = get_d_part 65 (65 * i) 0 (replicate len (pos 0)) (omega arith) ∙ all (65 * i + 0) in
         ap (λ x. take (min (small_of x) 64) (drop 1 zs)) e

@@ -1,6 +1,5 @@
 -- What the machine's arrays hold, and which memory of the machine they are.
 pub mod Written
-pub mod Codes
 pub mod Values
 pub mod Slots
 pub mod Spelt

@@ -36,20 +36,23 @@ abbrev pub branch_from : ℕ → (above at : Tree) → Branch
 branch_from finished above at = cond (finished == 0) Above (cond (finished == 1) (At above) (Below at above))
 
 abbrev pub branch_of : List ℤ → Branch
-branch_of zs = branch_from (small_in zs 7) (tree_in zs 8) (tree_in zs 9)
+branch_of zs = branch_from (small_in zs 0) (tree_in zs 1) (tree_in zs 2)
 
 abbrev pub question_of : List ℤ → Question
-question_of zs = record { marks = marks_of zs; branch = branch_of zs }
+question_of zs = record { marks = marks_of zs; branch = branch_of (part 3 7 zs) }
 
--- the i-th value of an array
+-- the i-th value of an array, of so many numbers each
+abbrev pub value_in : {A : Type 0} → (width : ℕ) → (List ℤ → A) → List ℤ → ℕ → A
+value_in width of cells i = of (part width (width * i) cells)
+
 abbrev pub left_in : List ℤ → ℕ → Left
-left_in cells i = left_of (part 2 (2 * i) cells)
+left_in = value_in 2 left_of
 
 abbrev pub fact_in : List ℤ → ℕ → Fact
-fact_in cells i = fact_of (part 3 (3 * i) cells)
+fact_in = value_in 3 fact_of
 
 abbrev pub frame_in : List ℤ → ℕ → Frame
-frame_in cells i = frame_of (part 4 (4 * i) cells)
+frame_in = value_in 4 frame_of
 
 abbrev pub question_in : List ℤ → ℕ → Question
-question_in cells i = question_of (part 10 (10 * i) cells)
+question_in = value_in 10 question_of

@@ -1,10 +1,11 @@
 // What the machine's arrays hold, and how each of these values is a few numbers.
-ghost use Rattle.std.specs.Prelude.{◌≡◌};
+ghost use Rattle.std.proofs.Common.{lit<};
 ghost use Rattle.stacks.specs.Values.{left_of, fact_of, frame_of, marks_of, branch_of, question_of};
 
-use crate::cells::{sign_at, small_at, tree_at};
+use crate::cells::{run_of, sign_at};
+use arena::record::Record;
 use field::sign::Sign;
-use question::tree::Tree;
+use question::tree::{Tree, small_at, tree_at};
 
 // What is left of a polynomial: its first `count` monomials, with the sign of their leading coefficient; or none, and this sign everywhere.
 #[derive(Clone, Copy)]
@@ -58,66 +59,164 @@ pub struct Question {
     pub branch: Branch,
 }
 
-pub fn decoded_left(cells: &[i64]) -> Left
-    ensures { result ≡ left_of cells.now }
-{
-    Left {
-        count: small_at(cells, 0),
-        sign: sign_at(cells, 1),
+impl Record for Left {
+    const WIDTH: usize = 2;
+
+    ghost WIDTH = { 2 };
+
+    ghost value_of = { left_of };
+
+    ghost narrow = { lit< tt };
+
+    fn decoded(cells: &[i64]) -> Left {
+        Left {
+            count: small_at(cells, 0),
+            sign: sign_at(cells, 1),
+        }
+    }
+
+    fn encode(self, cells: &mut [i64]) {
+        cells.copy_from_slice(&[i64::from(self.count), i64::from(self.sign)]);
     }
 }
 
-pub fn decoded_fact(cells: &[i64]) -> Fact
-    ensures { result ≡ fact_of cells.now }
-{
-    Fact {
-        slot: small_at(cells, 0),
-        count: small_at(cells, 1),
-        sign: sign_at(cells, 2),
+impl Record for Fact {
+    const WIDTH: usize = 3;
+
+    ghost WIDTH = { 3 };
+
+    ghost value_of = { fact_of };
+
+    ghost narrow = { lit< tt };
+
+    fn decoded(cells: &[i64]) -> Fact {
+        Fact {
+            slot: small_at(cells, 0),
+            count: small_at(cells, 1),
+            sign: sign_at(cells, 2),
+        }
+    }
+
+    fn encode(self, cells: &mut [i64]) {
+        cells.copy_from_slice(&[
+            i64::from(self.slot),
+            i64::from(self.count),
+            i64::from(self.sign),
+        ]);
     }
 }
 
-pub fn decoded_frame(cells: &[i64]) -> Frame
-    ensures { result ≡ frame_of cells.now }
-{
-    Frame {
-        base: small_at(cells, 0),
-        size: small_at(cells, 1),
-        place: small_at(cells, 2),
-        divisors: small_at(cells, 3),
+impl Record for Frame {
+    const WIDTH: usize = 4;
+
+    ghost WIDTH = { 4 };
+
+    ghost value_of = { frame_of };
+
+    ghost narrow = { lit< tt };
+
+    fn decoded(cells: &[i64]) -> Frame {
+        Frame {
+            base: small_at(cells, 0),
+            size: small_at(cells, 1),
+            place: small_at(cells, 2),
+            divisors: small_at(cells, 3),
+        }
+    }
+
+    fn encode(self, cells: &mut [i64]) {
+        cells.copy_from_slice(&[
+            i64::from(self.base),
+            i64::from(self.size),
+            i64::from(self.place),
+            i64::from(self.divisors),
+        ]);
     }
 }
 
-pub fn decoded_marks(cells: &[i64]) -> Marks
-    ensures { result ≡ marks_of cells.now }
-{
-    Marks {
-        looks: small_at(cells, 0),
-        base: small_at(cells, 1),
-        done: small_at(cells, 2),
-        ahead: small_at(cells, 3),
-        count: small_at(cells, 4),
-        facts: small_at(cells, 5),
-        frames: small_at(cells, 6),
+impl Record for Marks {
+    const WIDTH: usize = 7;
+
+    ghost WIDTH = { 7 };
+
+    ghost value_of = { marks_of };
+
+    ghost narrow = { lit< tt };
+
+    fn decoded(cells: &[i64]) -> Marks {
+        Marks {
+            looks: small_at(cells, 0),
+            base: small_at(cells, 1),
+            done: small_at(cells, 2),
+            ahead: small_at(cells, 3),
+            count: small_at(cells, 4),
+            facts: small_at(cells, 5),
+            frames: small_at(cells, 6),
+        }
+    }
+
+    fn encode(self, cells: &mut [i64]) {
+        cells.copy_from_slice(&[
+            i64::from(self.looks),
+            i64::from(self.base),
+            i64::from(self.done),
+            i64::from(self.ahead),
+            i64::from(self.count),
+            i64::from(self.facts),
+            i64::from(self.frames),
+        ]);
     }
 }
 
-// By the number of trees that are finished.
-pub fn decoded_branch(cells: &[i64]) -> Branch
-    ensures { result ≡ branch_of cells.now }
-{
-    match small_at(cells, 7) {
-        0 => Branch::Above,
-        1 => Branch::At(tree_at(cells, 8)),
-        _ => Branch::Below(tree_at(cells, 9), tree_at(cells, 8)),
+// How many trees are finished, then these, the one above first.
+impl Record for Branch {
+    const WIDTH: usize = 3;
+
+    ghost WIDTH = { 3 };
+
+    ghost value_of = { branch_of };
+
+    ghost narrow = { lit< tt };
+
+    fn decoded(cells: &[i64]) -> Branch {
+        let above = tree_at(cells, 1);
+        match small_at(cells, 0) {
+            0 => Branch::Above,
+            1 => Branch::At(above),
+            _ => Branch::Below(tree_at(cells, 2), above),
+        }
+    }
+
+    fn encode(self, cells: &mut [i64]) {
+        match self {
+            Branch::Above => cells.copy_from_slice(&[0, 0, 0]),
+            Branch::At(above) => cells.copy_from_slice(&[1, i64::from(above), 0]),
+            Branch::Below(at, above) => {
+                cells.copy_from_slice(&[2, i64::from(above), i64::from(at)]);
+            }
+        }
     }
 }
 
-pub fn decoded_question(cells: &[i64]) -> Question
-    ensures { result ≡ question_of cells.now }
-{
-    Question {
-        marks: decoded_marks(cells),
-        branch: decoded_branch(cells),
+impl Record for Question {
+    const WIDTH: usize = 10;
+
+    ghost WIDTH = { 10 };
+
+    ghost value_of = { question_of };
+
+    ghost narrow = { lit< tt };
+
+    fn decoded(cells: &[i64]) -> Question {
+        Question {
+            marks: Marks::decoded(cells),
+            branch: Branch::decoded(run_of(cells, Marks::WIDTH, Branch::WIDTH)),
+        }
+    }
+
+    fn encode(self, cells: &mut [i64]) {
+        let (marks, branch) = cells.split_at_mut(Marks::WIDTH);
+        self.marks.encode(marks);
+        self.branch.encode(branch);
     }
 }

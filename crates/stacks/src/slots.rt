@@ -7,8 +7,9 @@ ghost use Rattle.stacks.specs.Written.{Written};
 ghost use Rattle.stacks.specs.Slots.{slot_of, slot_in};
 ghost use Rattle.stacks.specs.Memories.{AllHold};
 
-use crate::cells::{put, run_of, small_at};
+use crate::cells::{put, run_of};
 use packed::view::View;
+use question::tree::small_at;
 
 // How many numbers a slot takes.
 pub const SLOT: usize = 65;
@@ -58,7 +59,5 @@ pub fn put_polynomial(slots: &mut [i64], i: u16, monomials: &[i64])
 pub fn clear(slots: &mut [i64])
     ensures { (n : ℕ) → AllHold n slots.new }
 {
-    for cell in slots.iter_mut() {
-        *cell = 0;
-    }
+    slots.fill(0);
 }

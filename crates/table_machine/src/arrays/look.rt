@@ -10,7 +10,7 @@ use super::Machine;
 use crate::facing::Facing;
 use field::sign::Sign;
 use question::tree::Tree;
-use stacks::arrays::{put_fact, put_left, put_question};
+use stacks::arrays::write;
 use stacks::marks::{Branch, Fact, Left, Marks, Question};
 
 impl Machine<'_> {
@@ -28,7 +28,7 @@ impl Machine<'_> {
             count: 0,
             sign: Sign::Zero,
         };
-        put_left(self.lefts, at.front().slot, left);
+        write(self.lefts, at.front().slot, left);
         self.next(at)
     }
 
@@ -43,13 +43,13 @@ impl Machine<'_> {
         ensures others { self.new.others ≡ self.old.others }
     {
         let marks = question.marks;
-        put_question(self.questions, pending - 1, question);
+        write(self.questions, pending - 1, question);
         let fact = Fact {
             slot: marks.base + marks.done,
             count: marks.count,
             sign,
         };
-        put_fact(self.facts, marks.facts, fact);
+        write(self.facts, marks.facts, fact);
         let marks = Marks {
             facts: marks.facts + 1,
             ..marks

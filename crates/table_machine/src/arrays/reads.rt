@@ -12,7 +12,7 @@ use crate::facing::Facing;
 use crate::polynomials::Polynomials;
 use field::sign::Sign;
 use packed::view::View;
-use stacks::arrays::{left_at, question_at};
+use stacks::arrays::read;
 use stacks::marks::{Left, Question};
 
 impl Machine<'_> {
@@ -60,12 +60,12 @@ impl Machine<'_> {
     pub(super) fn left(&self, slot: u16) -> Left
         ensures { result ≡ left_in self.now.lefts.now slot }
     {
-        left_at(self.lefts, slot)
+        read(self.lefts, slot)
     }
 
     pub(super) fn question(&self, i: u16) -> Question
         ensures { result ≡ question_in self.now.questions.now i }
     {
-        question_at(self.questions, i)
+        read(self.questions, i)
     }
 }

@@ -6,7 +6,7 @@ ghost use Rattle.table_machine.specs.Cells.{cells_of, rewritten};
 use super::Machine;
 use crate::facing::Facing;
 use field::sign::Sign;
-use stacks::arrays::put_left;
+use stacks::arrays::write;
 use stacks::marks::{Left, Marks};
 
 impl Machine<'_> {
@@ -55,7 +55,7 @@ impl Machine<'_> {
             return self.shorter(at);
         }
         let left = self.left_of(at, sign);
-        put_left(self.lefts, at.front().slot, left);
+        write(self.lefts, at.front().slot, left);
         self.next(at)
     }
 }

@@ -15,7 +15,7 @@ use crate::equality::same_signed;
 use crate::front::Front;
 use field::sign::Sign;
 use packed::stretch::Stretch;
-use stacks::arrays::fact_at;
+use stacks::arrays::read;
 use stacks::marks::Fact;
 
 // The sign of a number, as a polynomial with no variables.
@@ -49,7 +49,7 @@ impl Polynomials<'_> {
     {
         let leading = self.leading(front);
         for i in (0..len).rev() {
-            if let Some(sign) = self.told(leading, fact_at(facts, i)) {
+            if let Some(sign) = self.told(leading, read(facts, i)) {
                 return Some(sign);
             }
         }

@@ -2,9 +2,9 @@
 use Rattle.std.proofs.Common.{◌≡◌, ◌*◌, ◌≤◌, min, length, take, Ok, Err, sym, refl, ◌∙◌, subst, subst₂, arith, rules}
 use Rattle.std.proofs.lemmas.Result.{err_from_is_err_and}
 use Rattle.arena.specs.declared.arena.Full.{Full}
+use Rattle.std.proofs.lemmas.List.{length-take-le}
 use Rattle.question.specs.Nodes.{node_at}
 use Rattle.question.specs.Collect.{Notes, Collects}
-use Rattle.question.proofs.Nodes.{length-below}
 use Rattle.question.proofs.Collected.{collects_none, collects_beyond, refused_above, refused_at, refused_below, collects_question}
 use Rattle.question.proofs.collect.+collect_below.Goals as goal
 
@@ -19,7 +19,7 @@ pub returns-then-i-min : goal.returns-then-i-min
 returns-then-i-min t c =
     let top = c.args.questions.now.arena.top in
     let cells = c.args.questions.now.arena.cells.now in
-    let long : length (take top cells) ≡ top = length-below top cells c.args.questions.now.arena.within in
+    let long : length (take top cells) ≡ top = length-take-le top cells c.args.questions.now.arena.within in
     let whole : top ≡ 5 * c.args.questions.now.len = c.args.questions.now.whole in
     let few : length (take top cells) ≤ 5 * c.args.questions.now.len = omega arith in
     let beyond : min c.args.limit c.args.questions.now.len ≤ c.in-Question.i = omega (arith, c.if-i-min.true, c.min.ensures, c.len.ensures) in

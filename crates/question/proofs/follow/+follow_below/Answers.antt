@@ -1,10 +1,10 @@
 -- A tree followed one question down.
 use Rattle.std.proofs.Common.{◌≡◌, ◌*◌, ◌≤◌, min, length, get_or, take, ap, ◌∙◌, subst, arith}
 use Rattle.field.specs.declared.sign.Sign.TheVariants.{Zero}
-use Rattle.question.specs.declared.follow.Answer.TheVariants.{GivenUp}
+use Rattle.words.specs.declared.answer.Answer.TheVariants.{GivenUp}
+use Rattle.std.proofs.lemmas.List.{length-take-le}
 use Rattle.question.specs.Nodes.{node_at, chosen}
 use Rattle.question.specs.Follow.{Follows}
-use Rattle.question.proofs.Nodes.{length-below}
 use Rattle.question.proofs.Followed.{follows_yes, follows_no, follows_given_up, follows_beyond, follows_question}
 use Rattle.question.proofs.follow.+follow_below.Goals as goal
 
@@ -21,7 +21,7 @@ pub returns-then-i-min : goal.returns-then-i-min
 returns-then-i-min t c =
     let top = c.args.questions.now.arena.top in
     let cells = c.args.questions.now.arena.cells.now in
-    let long : length (take top cells) ≡ top = length-below top cells c.args.questions.now.arena.within in
+    let long : length (take top cells) ≡ top = length-take-le top cells c.args.questions.now.arena.within in
     let whole : top ≡ 5 * c.args.questions.now.len = c.args.questions.now.whole in
     let few : length (take top cells) ≤ 5 * c.args.questions.now.len = omega arith in
     let beyond : min c.args.limit c.args.questions.now.len ≤ c.in-Question.i = omega (arith, c.if-i-min.true, c.min.ensures, c.len.ensures) in

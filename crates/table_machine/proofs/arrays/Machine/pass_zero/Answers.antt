@@ -9,4 +9,4 @@ pub returns-clause-passes : goal.returns-clause-passes
 returns-clause-passes c =
     let self = c.args.self.now in
     passes_zero self.others.count (cells_of self) c.args.at.marks _ _
-    (subst (λ i. Written left_in i _ self.lefts.now c.put_left.new.lefts) (ap (λ f. f.slot) c.front.ensures) c.put_left.ensures) c.next.ensures.marks
+    (subst (λ i. Written left_in i _ self.lefts.now c.write.new.cells) (ap (λ f. f.slot) c.front.ensures) c.write.ensures) c.next.ensures.marks

@@ -13,4 +13,4 @@ pub returns-clause-settles : goal.returns-clause-settles
 returns-clause-settles c =
     let self = c.args.self.now in
     settles-passed self.others.count (cells_of self) c.args.at.marks c.args.sign _ _ _ self.hold (search rules) c.left_of-left.ensures
-    (subst (λ i. Written left_in i c.left_of-left.result self.lefts.now c.put_left.new.lefts) (ap (λ f. f.slot) c.front.ensures) c.put_left.ensures) c.next.ensures.marks
+    (subst (λ i. Written left_in i c.left_of-left.result self.lefts.now c.write.new.cells) (ap (λ f. f.slot) c.front.ensures) c.write.ensures) c.next.ensures.marks

@@ -11,13 +11,13 @@ pub returns-in-Some : goal.returns-in-Some
 returns-in-Some c =
     let self = c.args.self.now in
     let l : 0 < c.loop-i.i = omega arith in
-    sym (fact-told self.others.count self.slots.now c.args.front.slot c.args.front.count c.loop-i.i (fact_in c.args.facts.now) _ _ (Some c.in-Some.sign) self.hold l c.fact_at.ensures c.leading-leading.ensures c.in-Some.ensures) ∙ c.loop-i.invariant
+    sym (fact-told self.others.count self.slots.now c.args.front.slot c.args.front.count c.loop-i.i (fact_in c.args.facts.now) _ _ (Some c.in-Some.sign) self.hold l c.read.ensures c.leading-leading.ensures c.in-Some.ensures) ∙ c.loop-i.invariant
 
 pub loop-i-preserved : goal.loop-i-preserved
 loop-i-preserved c =
     let self = c.args.self.now in
     let l : 0 < c.loop-i.i = omega arith in
-    sym (fact-told self.others.count self.slots.now c.args.front.slot c.args.front.count c.loop-i.i (fact_in c.args.facts.now) _ _ None self.hold l c.fact_at.ensures c.leading-leading.ensures c.in_default.ensures) ∙ c.loop-i.invariant
+    sym (fact-told self.others.count self.slots.now c.args.front.slot c.args.front.count c.loop-i.i (fact_in c.args.facts.now) _ _ None self.hold l c.read.ensures c.leading-leading.ensures c.in_default.ensures) ∙ c.loop-i.invariant
 
 pub returns : goal.returns
 returns c =
