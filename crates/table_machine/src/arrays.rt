@@ -10,6 +10,7 @@ mod reads;
 mod reals;
 mod settle;
 
+// How long the arrays are is asked where they are written: what is only read may lie in arrays of any length.
 #[derive(Drop)]
 pub struct Machine<'a> {
     pub others: Variables,

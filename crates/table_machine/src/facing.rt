@@ -5,6 +5,7 @@ use stacks::marks::Marks;
 
 mod steps;
 
+// That something is ahead and may be looked at is asked by each step: the outlook is for where it isn't so.
 #[derive(Clone, Copy)]
 pub struct Facing {
     pub marks: Marks,

@@ -18,7 +18,7 @@ impl<'a> Polynomials<'a> {
     }
 
     // The leading coefficient.
-    pub fn leading(&self, front: Front) -> Stretch<'a>
+    pub(super) fn leading(&self, front: Front) -> Stretch<'a>
         ensures { stretch_terms result ≡ leading_front self.now.others.count self.now.slots.now front.slot front.count }
     {
         Stretch::leading(self.view(front), self.others)

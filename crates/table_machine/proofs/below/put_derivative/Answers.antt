@@ -23,16 +23,12 @@ put_polynomial-requires-clause-few c =
     let few : length c.part.result.now ≡ length (cells_of ts) = ap length is in
     let short : length (cells_of ts) ≤ 64 = p.good.short in omega arith
 
-pub returns-in_err-len : goal.returns-in_err-len
-returns-in_err-len c =
+pub returns-in_err-len-clause-derives : goal.returns-in_err-len-clause-derives
+returns-in_err-len-clause-derives c =
     let e = err_from_is_err_and c.from_residual.result c.from_residual.ensures.1 in
     let p = c.in_err-len.ensures.stored in
     let n = c.args.others.count in
-    let ts = written c.derivative.new.self.front in
-    record {
-      derives = rw (e.1) (not_derived n c.args.slots.now c.args.front.slot c.args.front.count ts c.requires.few c.requires.hold (c.derivative.ensures.value ∙ ap (derivative_terms n) c.view.ensures) p.0, refl);
-      arena = (p.1.same_top, ap (λ k. take k c.pack.new.arena.cells.now) p.1.same_top ∙ ap (take c.args.arena.now.top) p.1.same_cells);
-    }
+    rw (e.1) (not_derived n c.args.slots.now c.args.front.slot c.args.front.count (written c.derivative.new.self.front) c.requires.few c.requires.hold (c.derivative.ensures.value ∙ ap (derivative_terms n) c.view.ensures) p.0, refl)
 
 pub returns : goal.returns
 returns c =
