@@ -56,8 +56,8 @@ pub term-returns-in_ok-number-in-Number-clause-read : goal.term-returns-in_ok-nu
 unfolding term_poly
 term-returns-in_ok-number-in-Number-clause-read t c =
     let n = c.args.variables.count in
-    let opened = of_kind c.args.depth n _ _ _ _ c.if-depth-eq0.false c.in_ok-kind.ensures c.in-Number.is in
     let fits : SFits w64 c.in_ok-number-in-Number.number = search rules in
+    let opened = of_kind c.args.depth n _ _ _ _ c.if-depth-eq0.false c.in_ok-kind.ensures c.in-Number.is in
     let read = opened ∙ ap (mapped Num) (sym c.in_ok-number-in-Number.ensures) in
     evaluates_read _ _ _ _ _ _ _ _ _ read (subst (λ z. Placed n (checked n (constant n z)) c.place_number.result c.args.arena.now.top c.args.arena.now.cells.now c.place_number.new.arena.top c.place_number.new.arena.cells.now) (to_z-of_z w64 c.in_ok-number-in-Number.number fits) c.place_number.ensures.placed)
 
