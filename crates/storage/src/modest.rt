@@ -4,7 +4,7 @@ ghost use Rattle.poly.specs.Modest.{magnitude};
 ghost use Rattle.terms.specs.ModestTerms.{small_key, small_terms, last_digits, modest_terms};
 ghost use Rattle.wide.specs.Written.{written};
 
-use wide::term::Term;
+use packed::term::Term;
 use wide::wide::Wide;
 
 // How many numbers a polynomial may hold.

@@ -3,12 +3,13 @@ ghost use Rattle.std.specs.Prelude.{◌≡◌, ℕ, ◌+◌, ◌^◌, ◌<◌, �
 ghost use Rattle.poly.specs.Modest.{magnitude};
 ghost use Rattle.terms.specs.Monomial.{Rising};
 ghost use Rattle.terms.specs.Cells.{cell_of};
-ghost use Rattle.wide.specs.Written.{written, monomial_in};
+ghost use Rattle.packed.specs.Terms.{monomial_in};
+ghost use Rattle.wide.specs.Written.{written};
 ghost use Rattle.storage.specs.Storing.{stored};
 
 use crate::modest::is_modest;
 use arena::arena::Arena;
-use wide::term::Term;
+use packed::term::Term;
 use wide::wide::Wide;
 
 // The polynomial isn't modest.
