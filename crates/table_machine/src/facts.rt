@@ -10,7 +10,6 @@ ghost use Rattle.stacks.specs.Values.{fact_in};
 ghost use Rattle.stacks.specs.Memories.{AllHold, front_poly, fact_from};
 ghost use Rattle.table_machine.specs.Told.{known_of, told_by, front_terms, leading_front};
 
-use crate::equality::same_signed;
 use field::sign::Sign;
 use packed::stretch::Stretch;
 use packed::variables::Variables;
@@ -35,10 +34,10 @@ fn told(slots: &[i64], leading: Stretch, fact: Fact, others: Variables) -> Optio
     ensures { known_of result ≡ told_by (same_terms (stretch_terms leading.entry) (leading_front others.count slots.now fact.slot fact.count)) (same_terms (neg_terms (stretch_terms leading.entry)) (leading_front others.count slots.now fact.slot fact.count)) fact.sign }
 {
     let about = leading_at(slots, others, fact.slot, fact.count);
-    if same_signed(leading, false, about) {
+    if leading == about {
         return Some(fact.sign);
     }
-    if same_signed(leading, true, about) {
+    if leading.negated() == about {
         return Some(fact.sign.flipped());
     }
     None
@@ -51,7 +50,7 @@ fn number_sign(number: Stretch) -> Sign
     if number.len() == 0 {
         return Sign::Zero;
     }
-    sign_of(number.coefficient(0))
+    sign_of(number.term(0).coefficient)
 }
 
 // What the first `len` facts tell, the newest first.
