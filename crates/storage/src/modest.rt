@@ -39,13 +39,11 @@ fn is_small_key(key: u64) -> bool
     ensures { result ≡ small_key 4 key }
 {
     let mut rest = key;
-    let mut digits = 4u32;
-    while digits > 0 {
+    for _ in 0..4u32 {
         if rest % 32 > 8 {
             return false;
         }
         rest /= 32;
-        digits -= 1;
     }
     true
 }

@@ -32,6 +32,17 @@ pub fn pack(list: &Wide, arena: &mut Arena) -> Result<usize, TooBig>
     Ok(list.len())
 }
 
+// The same, in place of what stands from a mark on.
+pub fn pack_at(list: &Wide, arena: &mut Arena, mark: usize) -> Result<usize, TooBig>
+    requires rising { Rising 0 (2 ^ 20) (written list.now) }
+    requires room { (mark ≤ arena.old.top) × (mark + 64 ≤ length arena.old.cells.now) }
+    ensures stored { stored result (written list.now) mark arena.old.cells.now arena.new.top arena.new.cells.now }
+    ensures lent { arena.new.cells.ghost_name ≡ arena.old.cells.ghost_name }
+{
+    arena.release(mark);
+    pack(list, arena)
+}
+
 // A monomial as one number.
 fn cell(term: Term) -> i64
     requires { (term.key < 2 ^ 20) × (magnitude term.coefficient < 2 ^ 27) }
