@@ -3,5 +3,6 @@
 
 pub mod equality;
 pub mod stretch;
+pub mod term;
 pub mod variables;
 pub mod view;

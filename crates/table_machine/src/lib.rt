@@ -3,7 +3,6 @@
 
 pub mod arrays;
 pub mod below;
-pub mod equality;
 pub mod facing;
 pub mod front;
 pub mod laws;

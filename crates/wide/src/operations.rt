@@ -5,15 +5,14 @@ ghost use Rattle.terms.specs.Monomial.{Rising, constant_terms};
 ghost use Rattle.terms.specs.Operations.{add_terms, neg_terms, mul_terms, variable_terms};
 ghost use Rattle.terms.specs.LeadingTerms.{length_terms, derivative_terms, slopes};
 ghost use Rattle.terms.specs.DivisionTerms.{step_terms};
-ghost use Rattle.packed.specs.Terms.{terms_in, term_at};
+ghost use Rattle.packed.specs.Terms.{terms_in, monomial_in};
 ghost use Rattle.packed.specs.StretchTerms.{stretch_terms};
-ghost use Rattle.packed.specs.Signed.{signed};
-ghost use Rattle.wide.specs.Written.{written, monomial_in};
+ghost use Rattle.wide.specs.Written.{written};
 ghost use Rattle.wide.specs.Slopes.{slope_by};
 
-use crate::scratch::{Scratch, signed_term};
-use crate::term::Term;
+use crate::scratch::Scratch;
 use packed::stretch::Stretch;
+use packed::term::Term;
 use packed::variables::Variables;
 use packed::view::View;
 
@@ -23,7 +22,7 @@ impl Scratch<'_> {
         ensures value { written self.new.front ≡ add_terms (terms_in left.entry) (terms_in right.entry) }
         ensures rising { Rising 0 (2 ^ 20) (written self.new.front) }
     {
-        self.copy(Stretch::whole(right), false);
+        self.copy(Stretch::whole(right));
         self.add_scaled(
             Term {
                 key: 0,
@@ -38,7 +37,7 @@ impl Scratch<'_> {
         ensures value { written self.new.front ≡ neg_terms (terms_in polynomial.entry) }
         ensures rising { Rising 0 (2 ^ 20) (written self.new.front) }
     {
-        self.copy(Stretch::whole(polynomial), true);
+        self.copy(Stretch::whole(polynomial).negated());
     }
 
     // At most 4,096 monomials.
@@ -47,7 +46,7 @@ impl Scratch<'_> {
         ensures rising { Rising 0 (2 ^ 20) (written self.new.front) }
     {
         self.clear();
-        self.add_product(Stretch::whole(left), false, right);
+        self.add_product(Stretch::whole(left), right);
     }
 
     // One step of a division by a divisor that isn't zero and has no higher degree: at most 8,192 monomials.
@@ -58,22 +57,21 @@ impl Scratch<'_> {
         ensures rising { Rising 0 (2 ^ 20) (written self.new.front) }
     {
         self.clear();
-        self.add_product(Stretch::leading(divisor, others), false, dividend);
+        self.add_product(Stretch::leading(divisor, others), dividend);
         self.add_product(
-            Stretch::leading_over(dividend, divisor, others),
-            true,
+            Stretch::leading_over(dividend, divisor, others).negated(),
             divisor,
         );
     }
 
-    // A stretch of monomials, or their negatives: at most 64.
-    pub fn copy(&mut self, stretch: Stretch, negated: bool)
-        ensures value { written self.new.front ≡ signed negated (stretch_terms stretch.entry) }
+    // A stretch of monomials: at most 64.
+    pub fn copy(&mut self, stretch: Stretch)
+        ensures value { written self.new.front ≡ stretch_terms stretch.entry }
         ensures rising { Rising 0 (2 ^ 20) (written self.new.front) }
     {
         self.clear();
         for i in 0..stretch.len() {
-            self.front.push(signed_term(stretch, negated, i));
+            self.front.push(stretch.term(i));
         }
     }
 
@@ -85,7 +83,7 @@ impl Scratch<'_> {
         let place = others.digit_place();
         self.clear();
         for i in polynomial.count_below(place)..polynomial.len() {
-            self.front.push(slope(polynomial, place, i));
+            self.front.push(slope(polynomial.term(i), place));
         }
     }
 
@@ -119,17 +117,16 @@ impl Scratch<'_> {
 }
 
 // A monomial's derivative, where the first variable's digit has this value and isn't zero.
-fn slope(polynomial: View, place: u64, i: usize) -> Term
+fn slope(term: Term, place: u64) -> Term
     requires place { 0 < place }
-    requires within { i < length (terms_in polynomial) }
-    requires key { place ≤ (term_at (terms_in polynomial) i).key }
-    ensures value { monomial_in result ≡ slope_by place (term_at (terms_in polynomial.entry) i) }
+    requires key { (place ≤ term.key) × (term.key < 2 ^ 19) }
+    requires size { magnitude term.coefficient < 2 ^ 27 }
+    ensures value { monomial_in result ≡ slope_by place (monomial_in term) }
     ensures bound { result.key < 2 ^ 19 }
 {
-    let key = polynomial.key(i);
-    let exponent = (key / place) as i64;
+    let exponent = (term.key / place) as i64;
     Term {
-        key: key - place,
-        coefficient: exponent * polynomial.coefficient(i),
+        key: term.key - place,
+        coefficient: exponent * term.coefficient,
     }
 }

@@ -1,9 +1,10 @@
 // A stored polynomial in its first variable; `others` is how many variables come after that.
-ghost use Rattle.std.specs.Prelude.{◌≡◌, ℕ, ◌^◌, ◌<◌, ◌≤◌, length};
+ghost use Rattle.std.specs.Prelude.{◌≡◌, ℕ, ◌^◌, ◌<◌, ◌≤◌, length, position, nat_le};
 ghost use Rattle.terms.specs.LeadingTerms.{degree_terms, length_terms, count_below, leading_key, prefix_terms};
-ghost use Rattle.packed.specs.Terms.{terms_in};
+ghost use Rattle.packed.specs.Terms.{terms_in, term_of};
 
 use super::View;
+use crate::term::Term;
 use crate::variables::Variables;
 
 impl<'a> View<'a> {
@@ -30,11 +31,7 @@ impl<'a> View<'a> {
     pub fn count_below(&self, bound: u64) -> usize
         ensures { result ≡ count_below bound (terms_in self.now) }
     {
-        let mut i = 0;
-        while i < self.len() && self.key(i) < bound {
-            i += 1;
-        }
-        i
+        first_at_least(self.cells, bound).unwrap_or(self.cells.len())
     }
 
     // The lowest key that a monomial of the leading coefficient can have.
@@ -52,4 +49,11 @@ impl<'a> View<'a> {
         let count = self.count_below(self.leading_key(others));
         View::new(&self.cells[0..count])
     }
+}
+
+// The place of the first monomial that has this key or a higher one.
+fn first_at_least(cells: &[i64], key: u64) -> Option<usize>
+    ensures { result ≡ position (λ cell. nat_le key (term_of cell).key) cells.now }
+{
+    cells.iter().position(|cell| key <= Term::from(*cell).key)
 }

@@ -1,11 +1,11 @@
 // What is read of a list of monomials and written to it.
 ghost use Rattle.std.specs.Prelude.{◌≡◌, ℕ, ◌+◌, ◌-◌, ◌^◌, ◌<◌, ◌≤◌, [], ◌∷◌, ◌++◌, length, drop};
 ghost use Rattle.terms.specs.Sizes.{KeysBelow};
-ghost use Rattle.packed.specs.Terms.{term_at};
-ghost use Rattle.wide.specs.Written.{written, monomial_in};
+ghost use Rattle.packed.specs.Terms.{term_at, monomial_in};
+ghost use Rattle.wide.specs.Written.{written};
 
 use super::Wide;
-use crate::term::Term;
+use packed::term::Term;
 
 impl<'a> Wide<'a> {
     // An empty list in this memory.

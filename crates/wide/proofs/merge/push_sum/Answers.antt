@@ -3,8 +3,9 @@ use Rattle.std.proofs.Common.{◌≡◌, false, [], ◌∷◌, ◌++◌, ◌+ℤ
 use Rattle.std.proofs.lemmas.Int.{to_z-of_z}
 use Rattle.poly.specs.Poly.{is_zero_number}
 use Rattle.terms.specs.Monomial.{monomial}
+use Rattle.packed.proofs.Places.{mag_small}
 use Rattle.wide.specs.Written.{written}
-use Rattle.wide.proofs.Bounds.{from_size, size_fits, mag_small, zero_bits, other_bits}
+use Rattle.wide.proofs.Bounds.{from_size, size_fits, zero_bits, other_bits}
 use Rattle.wide.proofs.Merging.{put_none, put_one}
 use Rattle.wide.proofs.merge.push_sum.Goals as goal
 

@@ -7,12 +7,12 @@ use Rattle.storage.specs.Spans.{terms_at}
 use Rattle.storage.specs.Storing.{Packed}
 use Rattle.storage.specs.Dividing.{Remainder}
 use Rattle.storage.proofs.Dividing.{no_remainder, refused_remainder, plain-remainder, exchanged-remainder, exchanged-steps, modest-negated, span}
-use Rattle.storage.proofs.remainder.remainder.Goals as goal
+use Rattle.storage.proofs.remainder.Divisor.remainder.Goals as goal
 
 pub returns-in_err-quotient : goal.returns-in_err-quotient
 returns-in_err-quotient c =
     record {
-      value = no_remainder c.from_residual.result c.args.others.count c.args.leading _ _ _ _ _ _ c.from_residual.ensures.0 (refused_remainder c.args.others.count c.args.leading _ _ _ _ _ _ c.in_err-quotient.ensures.value);
+      value = no_remainder c.from_residual.result c.args.self.others.count c.args.leading _ _ _ _ _ _ c.from_residual.ensures.0 (refused_remainder c.args.self.others.count c.args.leading _ _ _ _ _ _ c.in_err-quotient.ensures.value);
       lent = c.in_err-quotient.ensures.lent;
     }
 
@@ -39,12 +39,12 @@ returns-then-exchanges c =
     let e = c.top-mark.ensures in
     let rest = c.in_ok-quotient.quotient.rest in
     let k = subst (λ m. Packed c.in_ok-count.count (neg_terms (terms_at rest cells1)) m cells1 c.exchange.new.arena.top c.exchange.new.arena.cells.now) e c.in_ok-count.ensures.stored in
-    let r = exchanged-remainder c.args.others.count c.args.leading (terms_at c.args.divisor cells) (terms_at c.args.dividend cells) c.args.arena.now.top cells c.in_ok-quotient.quotient.steps rest
+    let r = exchanged-remainder c.args.self.others.count c.args.leading (terms_at c.args.self.span cells) (terms_at c.args.dividend cells) c.args.arena.now.top cells c.in_ok-quotient.quotient.steps rest
     c.divide.new.arena.top cells1 c.in_ok-count.count c.exchange.new.arena.top c.exchange.new.arena.cells.now (sym c.if-exchanges.ensures)
     (omega (arith, d.untouched.long, c.requires.room)) d k in
     record {
       value =
-          subst (λ m. Remainder c.args.others.count c.args.leading (terms_at c.args.divisor cells) (terms_at c.args.dividend cells) c.args.arena.now.top cells (span m c.in_ok-count.count) c.exchange.new.arena.top
+          subst (λ m. Remainder c.args.self.others.count c.args.leading (terms_at c.args.self.span cells) (terms_at c.args.dividend cells) c.args.arena.now.top cells (span m c.in_ok-count.count) c.exchange.new.arena.top
           c.exchange.new.arena.cells.now) (sym e) r;
       lent = c.in_ok-count.ensures.lent ∙ c.in_ok-quotient.ensures.lent;
     }
@@ -53,6 +53,6 @@ pub returns : goal.returns
 returns c =
     let d = c.in_ok-quotient.ensures.value in
     record {
-      value = plain-remainder c.args.others.count c.args.leading _ _ _ _ c.in_ok-quotient.quotient.steps c.in_ok-quotient.quotient.rest _ _ (sym c.if-exchanges.ensures) d;
+      value = plain-remainder c.args.self.others.count c.args.leading _ _ _ _ c.in_ok-quotient.quotient.steps c.in_ok-quotient.quotient.rest _ _ (sym c.if-exchanges.ensures) d;
       lent = c.in_ok-quotient.ensures.lent;
     }
