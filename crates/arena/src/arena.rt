@@ -1,6 +1,5 @@
 // An arena over a lent slice of numbers: those below its top stand, and the next one goes to the top.
-ghost use Rattle.std.specs.Prelude.{◌≡◌, ℕ, ◌+◌, ◌-◌, ◌<◌, ◌≤◌, List, [], ◌∷◌, ◌++◌, length, take, drop, ℤ, pos};
-ghost use Rattle.arena.specs.Growth.{Grown, pushed, all_pushed, given};
+ghost use Rattle.std.specs.Prelude.{◌≡◌, ◌+◌, ◌<◌, ◌≤◌, [], ◌∷◌, length, take, drop, slice_get};
 
 // All the lent numbers are in use.
 #[derive(Clone, Copy, PartialEq, Eq, Debug)]
@@ -25,6 +24,8 @@ impl<'a> Arena<'a> {
 }
 
 impl Arena<'_> {
+    ghost use Rattle.arena.specs.Standing.{standing, GrownBy, pushed, all_pushed};
+
     // How many numbers stand: the mark to go back to.
     pub fn top(&self) -> usize
         ensures { result ≡ self.now.top }
@@ -41,7 +42,7 @@ impl Arena<'_> {
 
     // One more number on top, unless all are in use.
     pub fn push(&mut self, value: i64) -> Result<(), Full>
-        ensures stands { pushed result value self.old.top self.old.cells.now self.new.top self.new.cells.now }
+        ensures stands { pushed result value self.old self.new }
         ensures lent { self.new.cells.ghost_name ≡ self.old.cells.ghost_name }
     {
         if self.top == self.cells.len() {
@@ -54,7 +55,7 @@ impl Arena<'_> {
     // One more number on top, where there is room for it.
     pub fn put(&mut self, value: i64)
         requires { self.old.top < length self.old.cells.now }
-        ensures stands { Grown (value ∷ []) self.old.top self.old.cells.now self.new.top self.new.cells.now }
+        ensures stands { GrownBy (value ∷ []) self.old self.new }
         ensures lent { self.new.cells.ghost_name ≡ self.old.cells.ghost_name }
     {
         self.cells[self.top] = value;
@@ -63,7 +64,7 @@ impl Arena<'_> {
 
     // All these numbers on top, unless there is no room for all of them.
     pub fn push_all(&mut self, values: &[i64]) -> Result<(), Full>
-        ensures stands { all_pushed result values.now self.old.top self.old.cells.now self.new.top self.new.cells.now }
+        ensures stands { all_pushed result values.now self.old self.new }
         ensures lent { self.new.cells.ghost_name ≡ self.old.cells.ghost_name }
     {
         if self.room() < values.len() {
@@ -77,7 +78,7 @@ impl Arena<'_> {
 
     // The number at a place that stands.
     pub fn read(&self, i: usize) -> Option<i64>
-        ensures { result ≡ given i self.now.top self.now.cells.now }
+        ensures { result ≡ slice_get (standing self.now) i }
     {
         self.part(0, self.top).get(i).copied()
     }

@@ -115,6 +115,11 @@ module _ (n : ℕ) (ps : List Poly) (apart : Apart n ps) (k : ℕ) (known : k < 
       let full : length (named_by ps zs) ≡ room = length-named ps zs ∙ e.1 in
       subst (λ b. room < length (cond b (named_by ps zs) (p ∷ named_by ps zs))) (sym (among-named n ps apart k known small zs all ∙ e.0)) (omega arith)
 
+-- more are asked about than there is room for
+abbrev pub Refuses : List ℤ → ℕ → Tree → List ℤ → ℕ → Type 0
+Refuses cells limit t before room =
+    (n : ℕ) (ps : List Poly) (s : sign.Tree) → Apart n ps → AllNamed ps before → IsTree ps cells s t → Earlier limit t → room < length (asked n s (named_by ps before))
+
 -- a tree's polynomials: those above, then those at, then those below, then its own
 module _ (cells : List ℤ) (limit : ℕ) (t : Tree) (before : List ℤ) (room : ℕ) where
   pub collects_none : ((i : ℕ) → t ≡ Numbered i → ⊥) → Collects {E = Full} cells limit t before (Ok tt) before room
@@ -149,10 +154,11 @@ module _ (cells : List ℤ) (limit : ℕ) (t : Tree) (before : List ℤ) (room :
       let z = asked-longer n a bs in
       let w = one-longer (is_among n p (asked n a bs)) p (asked n a bs) in omega arith
 
-  module _ (i : ℕ) (is : t ≡ Numbered i) where
-    abbrev q : Question
-    q = node_at cells i
+  -- what a `?` passes on
+  passed_on : (y : Full) (r : Result (Unit {0}) Full) → r ≡ Err y → (later : List ℤ) → Refuses cells limit t before room → Collects cells limit t before r later room
+  passed_on y r e later f = subst (λ u. Collects cells limit t before u later room) (sym e) f
 
+  module _ (i : ℕ) (is : t ≡ Numbered i) (q : Question) (read : q ≡ node_at cells i) where
     opened : (P : sign.Tree → Type 0) (ps : List Poly) (s : sign.Tree) → IsTree ps cells s t →
         ((p : Poly) (a b c : sign.Tree) → get_or ps q.polynomial End ≡ p → q.polynomial < length ps → IsTree ps cells a q.below → IsTree ps cells b q.at → IsTree ps cells c q.above →
         Earlier i q.below → Earlier i q.at → Earlier i q.above → P (sign.Ask p a b c)) → P s
@@ -163,51 +169,50 @@ module _ (cells : List ℤ) (limit : ℕ) (t : Tree) (before : List ℤ) (room :
     opened P ps (sign.Ask p a b c) h k =
         let there = h.is in
         let same : h.place ≡ i = cc in
-        moved h.place same h.about h.named h.below h.at h.above h.below_earlier h.at_earlier h.above_earlier
+        moved (node_at cells h.place) h.place (ap (node_at cells) same ∙ sym read) same h.about h.named h.below h.at h.above h.below_earlier h.at_earlier h.above_earlier
       where
-        moved : (j : ℕ) → j ≡ i → get_or ps (node_at cells j).polynomial End ≡ p → (node_at cells j).polynomial < length ps →
-            IsTree ps cells a (node_at cells j).below → IsTree ps cells b (node_at cells j).at → IsTree ps cells c (node_at cells j).above →
-            Earlier j (node_at cells j).below → Earlier j (node_at cells j).at → Earlier j (node_at cells j).above → P (sign.Ask p a b c)
-        moved j e =
-            subst (λ m. get_or ps (node_at cells m).polynomial End ≡ p → (node_at cells m).polynomial < length ps →
-            IsTree ps cells a (node_at cells m).below → IsTree ps cells b (node_at cells m).at → IsTree ps cells c (node_at cells m).above →
-            Earlier m (node_at cells m).below → Earlier m (node_at cells m).at → Earlier m (node_at cells m).above → P (sign.Ask p a b c)) (sym e) (k p a b c)
+        moved : (r : Question) (j : ℕ) → r ≡ q → j ≡ i → get_or ps r.polynomial End ≡ p → r.polynomial < length ps → IsTree ps cells a r.below → IsTree ps cells b r.at →
+            IsTree ps cells c r.above → Earlier j r.below → Earlier j r.at → Earlier j r.above → P (sign.Ask p a b c)
+        moved r j e f =
+            subst₂ (λ u m. get_or ps u.polynomial End ≡ p → u.polynomial < length ps → IsTree ps cells a u.below → IsTree ps cells b u.at → IsTree ps cells c u.above →
+            Earlier m u.below → Earlier m u.at → Earlier m u.above → P (sign.Ask p a b c)) (sym e) (sym f) (k p a b c)
 
-    pub refused_above : (after : List ℤ) (x : Full) → Collects cells i q.above before (Err x) after room → (later : List ℤ) → Collects {E = Full} cells limit t before (Err x) later room
-    refused_above after x f later n ps s apart all h l =
-        opened (λ u. room < length (asked n u (named_by ps before))) ps s h (λ p a b c about known ha hb hc la lb lc.
+    pub refused_above : Refuses cells i q.above before room → (y : Full) (r : Result (Unit {0}) Full) → r ≡ Err y → (later : List ℤ) → Collects cells limit t before r later room
+    refused_above f y r e later =
+        passed_on y r e later (λ n ps s apart all h l. opened (λ u. room < length (asked n u (named_by ps before))) ps s h (λ p a b c about known ha hb hc la lb lc.
         let bound = asked-parts n p a b c (named_by ps before) in
-        let full : room < length (asked n c (named_by ps before)) = f n ps c apart all hc lc in omega arith)
+        let full : room < length (asked n c (named_by ps before)) = f n ps c apart all hc lc in omega arith))
 
     module _ (above : List ℤ) (done-above : Collects {E = Full} cells i q.above before (Ok tt) above room) where
-      pub refused_at : (after : List ℤ) (x : Full) → Collects cells i q.at above (Err x) after room → (later : List ℤ) → Collects {E = Full} cells limit t before (Err x) later room
-      refused_at after x f later n ps s apart all h l =
-          opened (λ u. room < length (asked n u (named_by ps before))) ps s h (λ p a b c about known ha hb hc la lb lc.
+      pub refused_at : (left : ℕ) → left ≡ room → Refuses cells i q.at above left → (y : Full) (r : Result (Unit {0}) Full) → r ≡ Err y → (later : List ℤ) → Collects cells limit t before r later room
+      refused_at left same f y r e later =
+          passed_on y r e later (λ n ps s apart all h l. opened (λ u. room < length (asked n u (named_by ps before))) ps s h (λ p a b c about known ha hb hc la lb lc.
           let bound = asked-parts n p a b c (named_by ps before) in
           let first = done-above n ps c apart all hc lc in
-          let full : room < length (asked n b (asked n c (named_by ps before))) =
-          subst (λ qs. room < length (asked n b qs)) first.0 (f n ps b apart first.1 hb lb) in omega arith)
+          let full : left < length (asked n b (asked n c (named_by ps before))) =
+          subst (λ qs. left < length (asked n b qs)) first.0 (f n ps b apart first.1 hb lb) in omega arith))
 
       module _ (at : List ℤ) (done_at : Collects {E = Full} cells i q.at above (Ok tt) at room) where
-        pub refused_below : (after : List ℤ) (x : Full) → Collects cells i q.below at (Err x) after room → (later : List ℤ) → Collects {E = Full} cells limit t before (Err x) later room
-        refused_below after x f later n ps s apart all h l =
-            opened (λ u. room < length (asked n u (named_by ps before))) ps s h (λ p a b c about known ha hb hc la lb lc.
+        pub refused_below : (left : ℕ) → left ≡ room → Refuses cells i q.below at left → (y : Full) (r : Result (Unit {0}) Full) → r ≡ Err y → (later : List ℤ) → Collects cells limit t before r later room
+        refused_below left same f y r e later =
+            passed_on y r e later (λ n ps s apart all h l. opened (λ u. room < length (asked n u (named_by ps before))) ps s h (λ p a b c about known ha hb hc la lb lc.
             let bound = asked-parts n p a b c (named_by ps before) in
             let first = done-above n ps c apart all hc lc in
             let second = done_at n ps b apart first.1 hb lb in
-            let full : room < length (asked n a (asked n b (asked n c (named_by ps before)))) =
-            subst (λ qs. room < length (asked n a qs)) (second.0 ∙ ap (asked n b) first.0) (f n ps a apart second.1 ha la) in omega arith)
+            let full : left < length (asked n a (asked n b (asked n c (named_by ps before)))) =
+            subst (λ qs. left < length (asked n a qs)) (second.0 ∙ ap (asked n b) first.0) (f n ps a apart second.1 ha la) in omega arith))
 
-        pub collects_question : (below : List ℤ) → Collects {E = Full} cells i q.below at (Ok tt) below room →
-            (r : Result (Unit {0}) Full) (after : List ℤ) → Notes r q.polynomial below room after → Collects cells limit t before r after room
+        pub collects_question : (below : List ℤ) → Collects {E = Full} cells i q.below at (Ok tt) below room → (left : ℕ) → left ≡ room →
+            (r : Result (Unit {0}) Full) (after : List ℤ) → Notes r q.polynomial below left after → Collects cells limit t before r after room
         unfolding asked
-        collects_question below Done-below r after notes n ps s apart all h l =
+        collects_question below Done-below left here r after notes n ps s apart all h l =
             opened (λ u. Collected r n ps (asked n u (named_by ps before)) after room) ps s h (λ p a b c about known ha hb hc la lb lc.
             let first = done-above n ps c apart all hc lc in
             let second = done_at n ps b apart first.1 hb lb in
             let third = Done-below n ps a apart second.1 ha la in
             let qs = asked n a (asked n b (asked n c (named_by ps before))) in
             let same : named_by ps below ≡ qs = third.0 ∙ ap (asked n a) (second.0 ∙ ap (asked n b) first.0) in
-            let own : Collected r n ps (cond (is_among n (get_or ps q.polynomial End) (named_by ps below)) (named_by ps below) (get_or ps q.polynomial End ∷ named_by ps below)) after room =
-            noted n ps apart q.polynomial known (small-below (get_or cells (5 * i) (pos 0))) below third.1 r room after notes in
-            subst₂ (λ o us. Collected r n ps (cond (is_among n o us) us (o ∷ us)) after room) about same own)
+            let few : q.polynomial < 65536 = subst (λ u. u.polynomial < 65536) (sym read) (small-below (get_or cells (5 * i) (pos 0))) in
+            let own : Collected r n ps (cond (is_among n (get_or ps q.polynomial End) (named_by ps below)) (named_by ps below) (get_or ps q.polynomial End ∷ named_by ps below)) after left =
+            noted n ps apart q.polynomial known few below third.1 r left after notes in
+            subst₂ (λ o us. Collected r n ps (cond (is_among n o us) us (o ∷ us)) after room) about same (subst (λ m. Collected r n ps (cond (is_among n (get_or ps q.polynomial End) (named_by ps below)) (named_by ps below) (get_or ps q.polynomial End ∷ named_by ps below)) after m) here own))

@@ -1,8 +1,7 @@
 -- Questions as numbers, five each, one behind the other. Assumes nothing.
-use Rattle.std.specs.Prelude.{◌≡◌, ℕ, ◌+◌, ◌*◌, min, cond, List, [], ◌∷◌, length, ℤ, pos, Ok, Err, Result, nat_le, slice_index_or}
+use Rattle.std.specs.Prelude.{ℕ, ◌+◌, ◌*◌, min, cond, List, [], ◌∷◌, length, ℤ, pos, nat_le, slice_index_or}
 use Rattle.field.specs.declared.sign.Sign.{Sign}
 use Rattle.sign_table.specs.Tree.{by_sign}
-use Rattle.arena.specs.Growth.{Grown, Kept}
 use Rattle.question.specs.declared.tree.Tree.{Tree}
 use Rattle.question.specs.declared.tree.Tree.TheVariants.{Yes, No, GivenUp, Question as Numbered}
 use Rattle.question.specs.declared.tree.Question.{Question}
@@ -46,11 +45,6 @@ weight_of cells (Numbered i) = cond (nat_le (5 * i + 5) (length cells)) (node_at
 abbrev pub asking : List ℤ → ℕ → Tree → Tree → Tree → Question
 asking cells k a b c = record
     { polynomial = k; below = a; at = b; above = c; weight = capped (1 + (weight_of cells a + (weight_of cells b + weight_of cells c))) }
-
--- the new question stands behind the others, and its index is given back; or there is no room, and nothing has changed
-abbrev pub Asks : {E : Type 0} → Result Tree E → Question → ℕ → ℕ → List ℤ → ℕ → List ℤ → Type 0
-Asks (Ok t) q len top cells top' cells' = (t ≡ Numbered len) × Grown (node_cells q) top cells top' cells'
-Asks (Err _) q len top cells top' cells' = Kept top cells top' cells'
 
 -- the tree that the polynomial's sign leads to
 abbrev pub chosen : Question → Sign → Tree

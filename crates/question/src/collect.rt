@@ -1,6 +1,6 @@
 // The polynomials that a tree asks about, each once, in the order of asking.
 ghost use Rattle.std.specs.Prelude.{◌≡◌, length};
-ghost use Rattle.arena.specs.Standing.{standing};
+ghost use Rattle.arena.specs.Standing.{standing, SameLoan};
 ghost use Rattle.question.specs.Collect.{has_name, Notes, Collects};
 ghost use Rattle.question.specs.Numbers.{numbers};
 
@@ -18,8 +18,7 @@ fn has_name(names: &[i64], k: u16) -> bool
 // Notes a polynomial's name, unless it was noted before; refused where there is no room for one more.
 fn note(found: &mut Arena, k: u16) -> Result<(), Full>
     ensures stands { Notes result k (standing found.old) (length found.old.cells.now) (standing found.new) }
-    ensures long { length found.new.cells.now ≡ length found.old.cells.now }
-    ensures lent { found.new.cells.ghost_name ≡ found.old.cells.ghost_name }
+    ensures loan { SameLoan found.old found.new }
 {
     if has_name(found.part(0, found.top()), k) {
         return Ok(());
@@ -30,8 +29,7 @@ fn note(found: &mut Arena, k: u16) -> Result<(), Full>
 // Notes all polynomials that a tree asks about, those of the last end first; refused where they are more than there is room for.
 pub fn collect(questions: &Questions, tree: Tree, found: &mut Arena) -> Result<(), Full>
     ensures stands { Collects (numbers questions.now) questions.now.len tree (standing found.old) result (standing found.new) (length found.old.cells.now) }
-    ensures long { length found.new.cells.now ≡ length found.old.cells.now }
-    ensures lent { found.new.cells.ghost_name ≡ found.old.cells.ghost_name }
+    ensures loan { SameLoan found.old found.new }
 {
     collect_below(questions, tree, questions.len(), found)
 }
@@ -44,8 +42,7 @@ fn collect_below(
     found: &mut Arena,
 ) -> Result<(), Full>
     ensures stands { Collects (numbers questions.now) limit tree (standing found.old) result (standing found.new) (length found.old.cells.now) }
-    ensures long { length found.new.cells.now ≡ length found.old.cells.now }
-    ensures lent { found.new.cells.ghost_name ≡ found.old.cells.ghost_name }
+    ensures loan { SameLoan found.old found.new }
 {
     let Tree::Question(i) = tree else {
         return Ok(());

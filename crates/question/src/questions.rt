@@ -16,8 +16,8 @@ pub struct Questions<'a> {
 }
 
 impl Questions<'_> {
-    ghost use Rattle.question.specs.Nodes.{node_at, weight_of, asking, Asks};
-    ghost use Rattle.question.specs.Numbers.{numbers};
+    ghost use Rattle.question.specs.Nodes.{node_at, weight_of, asking};
+    ghost use Rattle.question.specs.Numbers.{numbers, Asks};
 
     // How many questions there are.
     pub fn len(&self) -> usize
@@ -47,7 +47,7 @@ impl Questions<'_> {
 
     // A new question behind the others, by its index; refused where there is no room for it.
     pub fn ask(&mut self, polynomial: u16, below: Tree, at: Tree, above: Tree) -> Result<Tree, Full>
-        ensures stands { Asks result (asking (numbers self.old) polynomial below at above) self.old.len self.old.arena.top self.old.arena.cells.now self.new.arena.top self.new.arena.cells.now }
+        ensures stands { Asks result (asking (numbers self.old) polynomial below at above) self.old self.new }
         ensures lent { self.new.arena.cells.ghost_name ≡ self.old.arena.cells.ghost_name }
     {
         let index = u16::try_from(self.len).map_err(|_| Full)?;

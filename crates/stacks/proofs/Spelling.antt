@@ -1,5 +1,6 @@
 -- The polynomial that is spelt from its own monomials is itself, and the first monomials of a polynomial are those of another. Assumes nothing.
 use Rattle.std.proofs.Common.{◌≡◌, ℕ, zero, suc, ◌+◌, ◌-◌, ◌^◌, ◌≤◌, T, List, [], ◌∷◌, ◌++◌, length, take, drop, pos, sym, refl, ap, ◌∙◌, subst, ap₂, arith}
+use Rattle.std.proofs.Math.Seq.{take-nil}
 use Rattle.poly.specs.Poly.{Poly, Number, End, Coef, from_coefs, coefs, is_zero, the_number, trim}
 use Rattle.poly.specs.Value.{Depth}
 use Rattle.terms.specs.Monomial.{Monomial, monomial, flat, raised, constant_terms}
@@ -69,12 +70,8 @@ spelt-flat (suc n) p d =
     from_coefs_lem n (flat (suc n) p) p e d.0
 
 -- the first k monomials
-take_nil : (k : ℕ) → ◌≡◌ {A = List Monomial} (take k []) []
-take_nil zero = refl
-take_nil (suc k) = refl
-
 take_both : (k : ℕ) (s t : List Monomial) → take k (s ++ t) ≡ take k s ++ take (k - length s) t
-take_both k [] t = let e : k ≡ k - 0 = omega arith in ap (λ j. take j t) e ∙ ap (λ l. l ++ take (k - 0) t) (sym (take_nil k))
+take_both k [] t = let e : k ≡ k - 0 = omega arith in ap (λ j. take j t) e ∙ ap (λ l. l ++ take (k - 0) t) (sym (take-nil k))
 take_both zero (m ∷ s) t = let e : zero - length (m ∷ s) ≡ zero = omega arith in ap (λ j. take j t) (sym e)
 take_both (suc k) (m ∷ s) t =
     let e : suc k - length (m ∷ s) ≡ k - length s = omega arith in
@@ -95,7 +92,7 @@ FrontList n cs k = (ds : List Poly) × AllOf (Canon 9 n) ds × (length ds ≤ le
 
 front_list : (n k : ℕ) (cs : List Poly) → ((c : Poly) (j : ℕ) → Canon 9 n c → Front n c j) → AllOf (Canon 9 n) cs → FrontList n cs k
 unfolding FrontList Front AllOf flats
-front_list n k [] ih d = ([], tt, omega arith, take_nil k)
+front_list n k [] ih d = ([], tt, omega arith, take-nil k)
 front_list n k (c ∷ cs) ih d =
     let (q, cq, eq) = ih c k d.0 in
     let (ds, cd, l, ed) = front_list n (k - length (flat n c)) cs ih d.1 in (
@@ -108,14 +105,14 @@ front_list n k (c ∷ cs) ih d =
 front-number : (k : ℕ) (p : Poly) → Depth zero p → Front zero p k
 unfolding Front Canon flat
 front-number k p d = constant_cases (the_number p) (λ ts. ts ≡ constant_terms (the_number p) → (q : Poly) × Depth zero q × (take k ts ≡ constant_terms (the_number q)))
-    (λ z e. (p, d, take_nil k ∙ e)) (λ z e. one k e) refl
+    (λ z e. (p, d, take-nil k ∙ e)) (λ z e. one k e) refl
   where
     none : [] ≡ constant_terms (pos 0)
     none = unfold constant_terms in refl
 
     one : (k : ℕ) → monomial 0 (the_number p) ∷ [] ≡ constant_terms (the_number p) → (q : Poly) × Depth zero q × (take k (monomial 0 (the_number p) ∷ []) ≡ constant_terms (the_number q))
     one zero e = (Number (pos 0), unfold Depth in tt, none)
-    one (suc k) e = (p, d, ap (λ l. monomial 0 (the_number p) ∷ l) (take_nil k) ∙ e)
+    one (suc k) e = (p, d, ap (λ l. monomial 0 (the_number p) ∷ l) (take-nil k) ∙ e)
 
 front_of_list : (n k : ℕ) (p : Poly) → length (coefs p) ≤ 9 → FrontList n (coefs p) k → Front (suc n) p k
 unfolding FrontList Front

@@ -1,17 +1,11 @@
 -- What is written as numbers reads back. Assumes nothing.
-use Rattle.std.proofs.Common.{◌≡◌, ℕ, ◌<◌, List, ◌++◌, length, get_or, take, drop, ℤ, pos, ap, ◌∙◌, subst, arith, w64, to_z, of_z, take_all}
+use Rattle.std.proofs.Common.{◌≡◌, ℕ, ◌<◌, List, ◌++◌, length, get_or, take, drop, ℤ, pos, ap, ◌∙◌, subst, arith, take_all}
 use Rattle.std.proofs.Math.Seq.{drop-append_seam}
 use lib.ListN.{get_or-append}
-use lib.Signed.{mag}
-use Rattle.std.proofs.lemmas.Int.{to_z-of_z}
 use Rattle.question.specs.Cells.{small_of}
 use Rattle.question.proofs.Nodes.{small_of_small}
 use Rattle.stacks.specs.declared.marks.Question.{Question}
 use Rattle.stacks.specs.Values.{marks_of, branch_of, question_of}
-
--- a number that was passed on as its bits
-pub trip : (r z : ℤ) → mag r < 9223372036854775808 → r ≡ z → to_z w64 (of_z w64 r) ≡ z
-trip r z h e = to_z-of_z w64 r (record { sfits = h }) ∙ e
 
 pub small_is : (n : ℕ) (z : ℤ) → n < 65536 → z ≡ pos n → small_of z ≡ n
 small_is n z h e = ap small_of e ∙ small_of_small n h

@@ -8,6 +8,7 @@ use field::sign::Sign;
 use question::tree::{Tree, small_at, tree_at};
 
 // What is left of a polynomial: its first `count` monomials, with the sign of their leading coefficient; or none, and this sign everywhere.
+// An enum would say no more, since the sign stands in both cases and none is a count.
 #[derive(Clone, Copy)]
 pub struct Left {
     pub count: u16,
@@ -168,7 +169,7 @@ impl Record for Marks {
     }
 }
 
-// How many trees are finished, then these, the one above first.
+// Lent memory holds numbers alone, so the first says how many trees are finished; then come these, the one above first.
 impl Record for Branch {
     const WIDTH: usize = 3;
 

@@ -1,4 +1,4 @@
-// Polynomials in numbered slots of 65 numbers: how many monomials there are, then the monomials.
+// Polynomials in numbered slots of 65 numbers: how many monomials there are, then the monomials. The memory is lent, so the count stands in it too.
 ghost use Rattle.std.specs.Prelude.{◌≡◌, ℕ, ◌+◌, ◌*◌, ◌≤◌, length, take};
 ghost use Rattle.terms.specs.Cells.{monomials_of};
 ghost use Rattle.packed.specs.Stored.{Stored};
@@ -51,7 +51,7 @@ pub fn put_polynomial(slots: &mut [i64], i: u16, monomials: &[i64])
     ensures { Written slot_in i monomials.now slots.old slots.new }
 {
     let at = SLOT * i as usize;
-    put(slots, at, &[i64::from(monomials.len() as u16)]);
+    put(slots, at, &[monomials.len() as i64]);
     put(slots, at + 1, monomials);
 }
 
