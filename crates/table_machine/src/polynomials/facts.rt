@@ -11,7 +11,6 @@ ghost use Rattle.stacks.specs.Memories.{front_poly, fact_from};
 ghost use Rattle.table_machine.specs.Told.{known_of, told_by, leading_front};
 
 use super::Polynomials;
-use crate::equality::same_signed;
 use crate::front::Front;
 use field::sign::Sign;
 use packed::stretch::Stretch;
@@ -25,7 +24,7 @@ fn number_sign(number: Stretch) -> Sign
     if number.len() == 0 {
         return Sign::Zero;
     }
-    Sign::of(number.coefficient(0))
+    Sign::of(number.term(0).coefficient)
 }
 
 impl Polynomials<'_> {
@@ -34,10 +33,10 @@ impl Polynomials<'_> {
         ensures { known_of result ≡ told_by (same_terms (stretch_terms leading.entry) (leading_front self.now.others.count self.now.slots.now fact.slot fact.count)) (same_terms (neg_terms (stretch_terms leading.entry)) (leading_front self.now.others.count self.now.slots.now fact.slot fact.count)) fact.sign }
     {
         let about = self.leading(Front::from(fact));
-        if same_signed(leading, false, about) {
+        if leading == about {
             return Some(fact.sign);
         }
-        if same_signed(leading, true, about) {
+        if leading.negated() == about {
             return Some(fact.sign.flipped());
         }
         None
