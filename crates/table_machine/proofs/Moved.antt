@@ -15,19 +15,17 @@ use Rattle.machine.specs.Counts.{noted}
 use Rattle.machine.proofs.Advances.{stacks_mirror}
 use Rattle.question.specs.declared.tree.Tree.{Tree}
 use Rattle.stacks.specs.declared.marks.Marks.{Marks}
-use Rattle.stacks.specs.declared.marks.Branch.{Branch}
 use Rattle.stacks.specs.declared.marks.Branch.TheVariants.{Above, At, Below}
 use Rattle.stacks.specs.declared.marks.Question.{Question}
-use Rattle.stacks.specs.Written.{Written}
 use Rattle.stacks.specs.Values.{left_in, fact_in, question_in}
 use Rattle.stacks.specs.Slots.{slot_in}
 use Rattle.stacks.specs.Memories.{Cells, poly_of, left_from, fact_from, question_from, exploring, marks_from, memory_of}
 use Rattle.table_machine.specs.declared.facing.Facing.{Facing}
 use Rattle.table_machine.specs.Cells.{rewritten}
 use Rattle.table_machine.specs.Settling.{Settles}
-use Rattle.table_machine.specs.Moving.{current_poly, current_known, Moves, PassesZero, one_fact, Explores, SameLengths, Finishes}
+use Rattle.table_machine.specs.Moving.{current_poly, current_known, Moves, PassesZero, one_fact, Explores, Finishes}
 
-pub agree : (n : ℕ) (trees : Tree → sign.Tree) (c : Cells) (lefts facts questions : List ℤ) (m : Marks) (k : ℕ) →
+agree : (n : ℕ) (trees : Tree → sign.Tree) (c : Cells) (lefts facts questions : List ℤ) (m : Marks) (k : ℕ) →
     ((i : ℕ) → i < m.base + m.done → left_in lefts i ≡ left_in c.lefts i) →
     ((i : ℕ) → i < m.facts → fact_in facts i ≡ fact_in c.facts i) →
     ((i : ℕ) → i < k → question_in questions i ≡ question_in c.questions i) →
@@ -62,20 +60,6 @@ moves-known n c f s lefts g looks ahead z t p q trees run sound =
     (stacks_mirror.passes_known run n (memory_of n trees c) new (marks_from n c.slots m) f.pending sound
     (agree n trees c lefts c.facts c.questions m f.pending p.kept (λ i h. refl) (λ i h. refl)) looks ahead z s (sym t) p.next (p.written trees c.facts c.questions))
 
-pub explored : (n : ℕ) (c : Cells) (m : Marks) (k : ℕ) (b : Branch) (s : Sign) (lefts facts questions : List ℤ) (d : Cells) (one r : Marks) →
-    Written question_in k (record { marks = m; branch = b }) c.questions questions →
-    Written fact_in m.facts (record { slot = m.base + m.done; count = m.count; sign = s }) c.facts facts → one ≡ one_fact m →
-    Settles n (rewritten c c.lefts facts questions) one s lefts r → d ≡ rewritten c lefts facts questions → length lefts ≡ length c.lefts → Explores n c m k b s d r
-explored n c m k b s lefts facts questions d one r q f o p e l =
-    subst (λ d. Explores n c m k b s d r) (sym e)
-    (record { question = q; fact = f; settles = subst (λ m. Settles n (rewritten c c.lefts facts questions) m s lefts r) o p; rest = refl; long = l })
-
-pub explored_slots : (n : ℕ) (c : Cells) (m : Marks) (k : ℕ) (b : Branch) (s : Sign) (d : Cells) (r : Marks) → Explores n c m k b s d r → d.slots ≡ c.slots
-explored_slots n c m k b s d r x = ap (λ e. e.slots) x.rest
-
-pub explored_long : (n : ℕ) (c : Cells) (m : Marks) (k : ℕ) (b : Branch) (s : Sign) (d : Cells) (r : Marks) → Explores n c m k b s d r → SameLengths c d
-explored_long n c m k b s d r x = record { lefts = x.long; facts = x.fact.long; questions = x.question.long }
-
 one-fact : (n : ℕ) (slots : List ℤ) (m : Marks) → marks_from n slots (one_fact m) ≡ with_one_fact (marks_from n slots m)
 one-fact n slots m =
     let fact : m.facts + 1 ≡ suc m.facts = omega arith in
@@ -103,7 +87,7 @@ moves-asked n c f d g looks ahead z t asked q =
     (ap (question_from n trees c.slots) x.question.there) (ap (fact_from n c.slots) x.fact.there) p.next (p.written trees facts questions)))
 
 -- the last question's branch above is finished
-pub returns_above : (n : ℕ) (c : Cells) (t : Tree) (q : Question) (k : ℕ) (d : Cells) (r : Marks) → q ≡ question_in c.questions k → q.branch ≡ Above →
+returns_above : (n : ℕ) (c : Cells) (t : Tree) (q : Question) (k : ℕ) (d : Cells) (r : Marks) → q ≡ question_in c.questions k → q.branch ≡ Above →
     Explores n c q.marks k (At t) Zero d r → (trees : Tree → sign.Tree) (run : Run) → Sound (memory_of n trees c) (stack.Holding (trees t) (suc k)) →
     Advances run n (memory_of n trees c) (stack.Holding (trees t) (suc k)) (memory_of n trees d) (stack.Facing (marks_from n d.slots r) (suc k)) 0 nothing_more
 returns_above n c t q k d r e b x trees run sound =
@@ -120,7 +104,7 @@ returns_above n c t q k d r e b x trees run sound =
     (agree n trees c d.lefts d.facts d.questions m k p.kept x.fact.under x.question.under)
     (ap (question_from n trees c.slots) x.question.there) (ap (fact_from n c.slots) x.fact.there)))
 
-pub returns_at : (n : ℕ) (c : Cells) (t above : Tree) (q : Question) (k : ℕ) (d : Cells) (r : Marks) → q ≡ question_in c.questions k → q.branch ≡ At above →
+returns_at : (n : ℕ) (c : Cells) (t above : Tree) (q : Question) (k : ℕ) (d : Cells) (r : Marks) → q ≡ question_in c.questions k → q.branch ≡ At above →
     Explores n c q.marks k (Below t above) Neg d r → (trees : Tree → sign.Tree) (run : Run) → Sound (memory_of n trees c) (stack.Holding (trees t) (suc k)) →
     Advances run n (memory_of n trees c) (stack.Holding (trees t) (suc k)) (memory_of n trees d) (stack.Facing (marks_from n d.slots r) (suc k)) 0 nothing_more
 returns_at n c t above q k d r e b x trees run sound =

@@ -13,7 +13,7 @@ use Rattle.packed.proofs.Leading.{take-monomials}
 use Rattle.storage.proofs.Denoting.{denoting_laws}
 use Rattle.sign_table.specs.Leadings as table
 use Rattle.sign_table.specs.Leadings.{left_of}
-use Rattle.machine.specs.Stacks.{Marked, less_one, passed}
+use Rattle.machine.specs.Stacks.{Marked, less_one}
 use Rattle.stacks.specs.declared.marks.Left.{Left}
 use Rattle.stacks.specs.declared.marks.Marks.{Marks}
 use Rattle.stacks.specs.Written.{Written}
@@ -24,10 +24,9 @@ use Rattle.stacks.specs.Memories.{Cells, AllHold, poly_of, front_poly, left_from
 use Rattle.stacks.proofs.Holding.{slot_laws}
 use Rattle.table_machine.specs.Told.{front_terms}
 use Rattle.table_machine.specs.Settling.{Settles, next_marks, shorter_marks, left_count}
-use Rattle.table_machine.specs.Moving.{PassesZero}
 use Rattle.table_machine.proofs.Telling.{front-denotes}
 
-pub less_one-is : (k : ℕ) → k - 1 ≡ less_one k
+less_one-is : (k : ℕ) → k - 1 ≡ less_one k
 less_one-is zero = omega arith
 less_one-is (suc k) = omega arith
 
@@ -49,7 +48,7 @@ shorter_terms n slots i count =
     let l : k ≤ count = omega arith in
     take-monomials (slot_in slots i) k ∙ sym (take-take k count all l) ∙ ap (take k) (sym e) ∙ take-length j ts
 
-pub shorter-poly : (n : ℕ) (slots : List ℤ) (i count : ℕ) → AllHold n slots →
+shorter-poly : (n : ℕ) (slots : List ℤ) (i count : ℕ) → AllHold n slots →
     front_poly n slots i (length (prefix_terms n (front_terms slots i count))) ≡ without_leading (front_poly n slots i count)
 shorter-poly n slots i count h =
     ap (spelt (suc n)) (shorter_terms n slots i count) ∙
@@ -111,19 +110,3 @@ settles-passed n c m s left lefts r h z e w q = by s z e
     by Neg z e = record { next = poly_of n (slot_in c.slots (m.base + suc m.done)); marks = marks; written = λ trees facts questions. (here Neg e, λ l. refl); kept = w.under }
     by Pos z e = record { next = poly_of n (slot_in c.slots (m.base + suc m.done)); marks = marks; written = λ trees facts questions. (here Pos e, λ l. refl); kept = w.under }
     by Zero z e = absurd (z refl)
-
--- the next polynomial, whole
-pub next_marks_lem : (n : ℕ) (slots : List ℤ) (m r : Marks) → r ≡ next_marks slots m → marks_from n slots r ≡ passed (poly_of n (slot_in slots (m.base + (m.done + 1)))) (marks_from n slots m)
-next_marks_lem n slots m r q =
-    let looks = less_one-is m.looks in
-    let ahead = less_one-is m.ahead in
-    let done : m.done + 1 ≡ suc m.done = omega arith in
-    let slot = slot_in slots (m.base + (m.done + 1)) in
-    let whole : take (length slot) slot ≡ slot = take_all (length slot) slot (omega arith) in
-    let current : front_poly n slots (m.base + (m.done + 1)) (length slot) ≡ poly_of n slot = ap (poly_of n) whole in
-    ap (marks_from n slots) q ∙ (λ i. Marked (looks i) m.base (done i) (ahead i) (current i) m.facts m.frames)
-
-pub passes_zero : (n : ℕ) (c : Cells) (m : Marks) (lefts : List ℤ) (r : Marks) → Written left_in (m.base + m.done) (record { count = 0; sign = Zero }) c.lefts lefts →
-    r ≡ next_marks c.slots m → PassesZero n c m lefts r
-passes_zero n c m lefts r w q =
-    record { marks = next_marks_lem n c.slots m r q; written = ap (left_from n c.slots (m.base + m.done)) w.there; kept = w.under }

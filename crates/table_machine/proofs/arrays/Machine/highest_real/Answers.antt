@@ -10,10 +10,10 @@ loop-i-preserved c =
     let marks = c.args.at.marks in
     let count = ap (λ l. l.count) (sym c.left.ensures) in
     elim c.if-left-gt0.branch [
-      then-left-gt0 w ↦
+      | then-left-gt0 w ↦
           let h = real_one self.others.count (cells_of self) marks c.loop-i.count c.loop-i.i c.loop-i.top c.loop-i.invariant.0 c.loop-i-test.true (omega (arith, count)) in
           (rw (w.count-is, w.top-is, w.higher.ensures) h, omega (arith, c.loop-i.invariant.1))
-    | else-left-gt0 w ↦
+      | else-left-gt0 w ↦
           let h = plain_one self.others.count (cells_of self) marks c.loop-i.count c.loop-i.i c.loop-i.top c.loop-i.invariant.0 c.loop-i-test.true (omega (arith, count)) in
           (rw (w.count-is, w.top-is) h, omega (arith, c.loop-i.invariant.1))
     ]
