@@ -1,6 +1,6 @@
 // Operations of terms: their polynomials at the top of an arena, or none where one isn't modest.
 // The scratch and the arena are two parameters: with both in one struct, each contract would say besides that the struct's references and its variables stay the same.
-ghost use Rattle.std.specs.Prelude.{◌≡◌, ◌+◌, ◌^◌, ◌≤◌, length};
+ghost use Rattle.std.specs.Prelude.{◌≡◌, ℕ, ◌+◌, ◌^◌, ◌≤◌, length};
 ghost use Rattle.poly.specs.Arithmetic.{constant, variable};
 ghost use Rattle.poly.specs.Modest.{checked};
 ghost use Rattle.terms.specs.Monomial.{Rising};
@@ -29,15 +29,10 @@ fn place(list: &Wide, arena: &mut Arena) -> Option<usize>
     pack(list, arena).ok()
 }
 
-// A number, in so many variables.
-pub fn place_number(
-    scratch: &mut Scratch,
-    arena: &mut Arena,
-    variables: Variables,
-    number: i64,
-) -> Option<usize>
+// A number, in however many variables.
+pub fn place_number(scratch: &mut Scratch, arena: &mut Arena, number: i64) -> Option<usize>
     requires room { arena.old.top + 64 ≤ length arena.old.cells.now }
-    ensures placed { Placed variables.count (checked variables.count (constant variables.count number)) result arena.old.top arena.old.cells.now arena.new.top arena.new.cells.now }
+    ensures placed { (n : ℕ) → n ≤ 4 → Placed n (checked n (constant n number)) result arena.old.top arena.old.cells.now arena.new.top arena.new.cells.now }
     ensures lent { arena.new.cells.ghost_name ≡ arena.old.cells.ghost_name }
 {
     scratch.number(number);

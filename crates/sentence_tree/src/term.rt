@@ -35,7 +35,7 @@ pub fn term(
         }
         Kind::Number => {
             let number = reader.number()?;
-            Ok(place_number(scratch, arena, variables, number))
+            Ok(place_number(scratch, arena, number))
         }
         Kind::Sum => combine(Operation::Sum, reader, scratch, arena, variables, depth - 1),
         Kind::Product => combine(

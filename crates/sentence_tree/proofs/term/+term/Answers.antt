@@ -59,7 +59,7 @@ term-returns-in_ok-number-in-Number-clause-read t c =
     let fits : SFits w64 c.in_ok-number-in-Number.number = search rules in
     let opened = of_kind c.args.depth n _ _ _ _ c.if-depth-eq0.false c.in_ok-kind.ensures c.in-Number.is in
     let read = opened ∙ ap (mapped Num) (sym c.in_ok-number-in-Number.ensures) in
-    evaluates_read _ _ _ _ _ _ _ _ _ read (subst (λ z. Placed n (checked n (constant n z)) c.place_number.result c.args.arena.now.top c.args.arena.now.cells.now c.place_number.new.arena.top c.place_number.new.arena.cells.now) (to_z-of_z w64 c.in_ok-number-in-Number.number fits) c.place_number.ensures.placed)
+    evaluates_read _ _ _ _ _ _ _ _ _ read (subst (λ z. Placed n (checked n (constant n z)) c.place_number.result c.args.arena.now.top c.args.arena.now.cells.now c.place_number.new.arena.top c.place_number.new.arena.cells.now) (to_z-of_z w64 c.in_ok-number-in-Number.number fits) (c.place_number.ensures.placed n c.args.variables.few))
 
 pub term-returns-in-BelowZero : goal.term-returns-in-BelowZero
 term-returns-in-BelowZero t c =
@@ -123,4 +123,4 @@ combine-returns-clause-read t c =
     subst (λ m. Placed n (term_poly n a.0) left m arena.cells.now middle.top middle.cells.now) (sym c.top-mark.ensures) a.2 in
     let made = c.place_combined.ensures.placed n (term_poly n a.0) (term_poly n b.0) arena.cells.now middle.top middle.cells.now c.args.variables.few lies b.2 in
     evaluates_read _ _ _ _ _ _ _ (combined_term o a.0 b.0) _ (two-read (combined_term o) go words first second a.0 b.0 a.1 b.1)
-          (subst₂ (λ p m. Placed n p c.place_combined.result m arena.cells.now placed.top placed.cells.now) (sym (combined-poly o n a.0 b.0)) c.top-mark.ensures made)
+    (subst₂ (λ p m. Placed n p c.place_combined.result m arena.cells.now placed.top placed.cells.now) (sym (combined-poly o n a.0 b.0)) c.top-mark.ensures made)
