@@ -1,5 +1,7 @@
-// A list of monomials in lent memory, keys and coefficients apart: 8,192 of them at most.
+// A list of monomials in lent memory: 8,192 of them at most.
 ghost use Rattle.std.specs.Prelude.{◌≡◌, ◌≤◌, length};
+
+use packed::term::Term;
 
 mod cells;
 
@@ -8,10 +10,8 @@ pub const ROOM: usize = 8192;
 
 #[derive(Drop)]
 pub struct Wide<'a> {
-    keys: &'a mut [i64],
-    coefficients: &'a mut [i64],
+    terms: &'a mut [Term],
     len: usize,
     ghost within: { len ≤ 8192 },
-    ghost enough: { length keys.now ≡ 8192 },
-    ghost alike: { length coefficients.now ≡ 8192 },
+    ghost enough: { length terms.now ≡ 8192 },
 }

@@ -35,7 +35,6 @@ append-requires c =
     record {
       from = c.loop-place.invariant.right_within;
       room = omega (arith, c.loop-place.invariant.short, c.loop-place.invariant.left_within, c.loop-place.invariant.right_within, c.requires.room);
-      keys = c.requires.keys_right;
     }
 
 pub returns : goal.returns

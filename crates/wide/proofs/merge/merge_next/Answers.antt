@@ -6,7 +6,6 @@ use Rattle.terms.specs.Monomial.{Monomial, monomial}
 use Rattle.terms.specs.Operations.{put_term}
 use Rattle.terms.proofs.Bounds.{length_scaled}
 use Rattle.packed.specs.Terms.{terms_in}
-use Rattle.packed.proofs.Places.{key_at}
 use Rattle.wide.specs.Written.{written}
 use Rattle.wide.specs.Merging.{scaled_by}
 use Rattle.wide.proofs.Bounds.{product-fits, pair_fits, scaled_term}
@@ -34,13 +33,7 @@ scaled-left-requires c =
     record { key = subst Key (sym e) f.key; size = subst Size (sym e) f.size }
 
 pub push-requires : goal.push-requires
-push-requires c =
-    let p = scaled_by c.args.by c.args.polynomial in
-    let q = written c.args.list.now in
-    let left = scaled_term c.args.by c.args.polynomial c.args.place.left c.term.result c.scaled-left.result c.requires.left c.term.ensures.value c.scaled-left.ensures in (
-      omega (arith, c.requires.left, c.requires.right, c.requires.short, c.requires.fits.room),
-      omega (arith, ap (λ m. m.key) left, key_at (2 ^ 63) p c.args.place.left c.requires.fits.keys_left c.requires.left),
-    )
+push-requires c = omega (arith, c.requires.left, c.requires.right, c.requires.short, c.requires.fits.room)
 
 pub returns-then-place-len : goal.returns-then-place-len
 returns-then-place-len c =
@@ -51,13 +44,7 @@ returns-then-place-len c =
     (c.push.ensures ∙ ap (λ m. written c.args.out.now ++ m ∷ []) left) c.requires.left (c.if-place-len.true ∙ c.len.ensures)
 
 pub push-requires-in-Less : goal.push-requires-in-Less
-push-requires-in-Less c =
-    let p = scaled_by c.args.by c.args.polynomial in
-    let q = written c.args.list.now in
-    let left = scaled_term c.args.by c.args.polynomial c.args.place.left c.term.result c.scaled-left.result c.requires.left c.term.ensures.value c.scaled-left.ensures in (
-      omega (arith, c.requires.left, c.requires.right, c.requires.short, c.requires.fits.room),
-      omega (arith, ap (λ m. m.key) left, key_at (2 ^ 63) p c.args.place.left c.requires.fits.keys_left c.requires.left),
-    )
+push-requires-in-Less c = omega (arith, c.requires.left, c.requires.right, c.requires.short, c.requires.fits.room)
 
 pub returns-in-Less : goal.returns-in-Less
 returns-in-Less c =
@@ -71,12 +58,7 @@ returns-in-Less c =
     (omega (arith, ap (λ m. m.key) left, ap (λ m. m.key) c.term-right.ensures, less))
 
 pub push-requires-in-Greater : goal.push-requires-in-Greater
-push-requires-in-Greater c =
-    let q = written c.args.list.now in
-    let j : c.args.place.right < length q = omega (arith, c.len.ensures, c.if-place-len.false, c.requires.right) in (
-      omega (arith, c.requires.left, c.requires.right, c.requires.short, c.requires.fits.room),
-      omega (arith, ap (λ m. m.key) c.term-right.ensures, key_at (2 ^ 63) q c.args.place.right c.requires.fits.keys_right j),
-    )
+push-requires-in-Greater c = omega (arith, c.requires.left, c.requires.right, c.requires.short, c.requires.fits.room, c.len.ensures, c.if-place-len.false)
 
 pub returns-in-Greater : goal.returns-in-Greater
 returns-in-Greater c =
@@ -99,7 +81,6 @@ push_sum-requires c =
     let Small : ℕ → Type 0 = λ n. n < 2 ^ 63 in
     record {
       room = omega (arith, c.requires.left, j, c.requires.short, c.requires.fits.room);
-      key = subst Small (sym (ap (λ m. m.key) left)) f.left_key;
       size = subst Small (ap magnitude (sym (ap₂ ◌+ℤ◌ (ap (λ m. m.times) left) (ap (λ m. m.times) c.term-right.ensures)))) f.size;
     }
 

@@ -15,9 +15,6 @@ overflow_add-sum c =
     let g : SFits w64 c.args.right.coefficient = search rules in
     subst (SFits w64) (sym (ap₂ ◌+ℤ◌ (to_z-of_z w64 _ f) (to_z-of_z w64 _ g))) (size_fits _ c.requires.size)
 
-pub push-requires : goal.push-requires
-push-requires c = (c.requires.room, c.requires.key)
-
 pub returns-then-sum-ne0 : goal.returns-then-sum-ne0
 returns-then-sum-ne0 c =
     let f : SFits w64 c.args.left.coefficient = search rules in

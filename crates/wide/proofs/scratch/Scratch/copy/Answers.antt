@@ -8,10 +8,7 @@ use Rattle.wide.proofs.Rising.{stretch_rising, wider}
 use Rattle.wide.proofs.scratch.Scratch.copy.Goals as goal
 
 pub push-requires : goal.push-requires
-push-requires c = (
-  omega (arith, ap length c.loop-i.invariant, length-take c.loop-i.i (stretch_terms c.args.stretch), c.loop-i-test.true, c.len-i-end.ensures.bound),
-  omega (arith, c.term.ensures.key),
-)
+push-requires c = omega (arith, ap length c.loop-i.invariant, length-take c.loop-i.i (stretch_terms c.args.stretch), c.loop-i-test.true, c.len-i-end.ensures.bound)
 
 pub loop-i-preserved : goal.loop-i-preserved
 loop-i-preserved c =

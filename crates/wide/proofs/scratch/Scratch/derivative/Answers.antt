@@ -34,7 +34,7 @@ slope-requires c =
     }
 
 pub push-requires : goal.push-requires
-push-requires c = (omega (arith, c.loop-i.invariant.1, c.loop-i-test.true, c.len-i-end.ensures.bound), omega (arith, c.slope.ensures.bound))
+push-requires c = omega (arith, c.loop-i.invariant.1, c.loop-i-test.true, c.len-i-end.ensures.bound)
 
 pub loop-i-preserved : goal.loop-i-preserved
 loop-i-preserved c =

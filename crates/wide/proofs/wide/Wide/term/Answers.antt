@@ -1,27 +1,10 @@
--- A place of the list is that place of both parts.
-use Rattle.std.proofs.Common.{get_or, pos, nat_abs, sym, ap, ◌∙◌, ap₂, arith, w64, SFits, rules}
-use Rattle.std.proofs.lemmas.Int.{to_z-of_z}
-use Rattle.terms.specs.Monomial.{monomial}
-use Rattle.wide.proofs.Pairs.{written_at}
-use Rattle.wide.proofs.Written.{written-length}
+-- A place of the list is that place of the memory.
+use Rattle.std.proofs.Common.{sym, arith}
+use Rattle.wide.proofs.Written.{written-length, written_at}
 use Rattle.wide.proofs.wide.Wide.term.Goals as goal
-
-pub offset_bounds-self-i : goal.offset_bounds-self-i
-offset_bounds-self-i c = omega (arith, written-length c.args.self.now, c.args.self.now.within, c.args.self.now.enough)
 
 pub bounds-self-i : goal.bounds-self-i
 bounds-self-i c = omega (arith, written-length c.args.self.now, c.args.self.now.within, c.args.self.now.enough)
 
-pub offset_bounds-self-i-2 : goal.offset_bounds-self-i-2
-offset_bounds-self-i-2 c = omega (arith, written-length c.args.self.now, c.args.self.now.within, c.args.self.now.alike)
-
-pub bounds-self-i-2 : goal.bounds-self-i-2
-bounds-self-i-2 c = omega (arith, written-length c.args.self.now, c.args.self.now.within, c.args.self.now.alike)
-
 pub returns : goal.returns
-returns c =
-    let w = c.args.self.now in
-    let f : SFits w64 (get_or w.keys.now c.args.i (pos 0)) = search rules in
-    let g : SFits w64 (get_or w.coefficients.now c.args.i (pos 0)) = search rules in
-    ap₂ monomial (c.unsigned_abs.ensures.value ∙ ap nat_abs (to_z-of_z w64 _ f)) (to_z-of_z w64 _ g) ∙
-    sym (written_at w.len w.keys.now w.coefficients.now c.args.i (w.enough ∙ sym w.alike) (omega (arith, w.within, w.enough)) (omega (arith, written-length w, c.requires)))
+returns c = sym (written_at c.args.self.now c.args.i _ (omega (arith, written-length c.args.self.now, c.requires)))
