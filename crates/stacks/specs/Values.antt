@@ -35,11 +35,15 @@ marks_of zs = record
 abbrev pub branch_from : ℕ → (above at : Tree) → Branch
 branch_from finished above at = cond (finished == 0) Above (cond (finished == 1) (At above) (Below at above))
 
+abbrev pub branch_of_three : List ℤ → Branch
+branch_of_three zs = branch_from (small_in zs 0) (tree_in zs 1) (tree_in zs 2)
+
+-- behind the seven marks
 abbrev pub branch_of : List ℤ → Branch
-branch_of zs = branch_from (small_in zs 0) (tree_in zs 1) (tree_in zs 2)
+branch_of zs = branch_of_three (part 3 7 zs)
 
 abbrev pub question_of : List ℤ → Question
-question_of zs = record { marks = marks_of zs; branch = branch_of (part 3 7 zs) }
+question_of zs = record { marks = marks_of zs; branch = branch_of zs }
 
 -- the i-th value of an array, of so many numbers each
 abbrev pub value_in : {A : Type 0} → (width : ℕ) → (List ℤ → A) → List ℤ → ℕ → A

@@ -1,6 +1,6 @@
 // What the machine's arrays hold, and how each of these values is a few numbers.
 ghost use Rattle.std.proofs.Common.{lit<};
-ghost use Rattle.stacks.specs.Values.{left_of, fact_of, frame_of, marks_of, branch_of, question_of};
+ghost use Rattle.stacks.specs.Values.{left_of, fact_of, frame_of, marks_of, branch_of_three, question_of};
 
 use crate::cells::{run_of, sign_at};
 use arena::record::Record;
@@ -175,7 +175,7 @@ impl Record for Branch {
 
     ghost WIDTH = { 3 };
 
-    ghost value_of = { branch_of };
+    ghost value_of = { branch_of_three };
 
     ghost narrow = { lit< tt };
 
