@@ -32,13 +32,9 @@ impl Machine<'_> {
     fn left_of(&self, at: Facing, sign: Sign) -> Left
         ensures { result ≡ record { count = left_count self.now.others.count self.now.slots.now at.marks; sign = sign } }
     {
-        if self.current(at).degree(self.others) == 0 {
-            return Left { count: 0, sign };
-        }
-        Left {
-            count: at.marks.count,
-            sign,
-        }
+        let is_constant = self.current(at).degree(self.others) == 0;
+        let count = if is_constant { 0 } else { at.marks.count };
+        Left { count, sign }
     }
 
     // Its leading coefficient is found to have this sign: zero takes it away, another settles the polynomial.
