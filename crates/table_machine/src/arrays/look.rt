@@ -60,7 +60,7 @@ impl Machine<'_> {
     // A question is asked, and its branch above is explored first.
     fn ask(&mut self, at: Facing) -> Facing
         requires some { (0 < at.marks.looks) × (0 < at.marks.ahead) }
-        requires room { Room (cells_of self.old) at }
+        requires room { Room (cells_of self.old) at.marks at.pending }
         requires unknown { (is_zero (current_poly self.old.others.count self.old.slots.now at.marks) ≡ false) × (current_known self.old.others.count self.old.slots.now self.old.facts.now at.marks ≡ Unknown) }
         ensures looks { Looks self.old.others.count (cells_of self.old) at (cells_of self.new) result }
         ensures others { self.new.others ≡ self.old.others }
@@ -102,7 +102,7 @@ impl Machine<'_> {
     // At the polynomial that comes first.
     pub fn look(&mut self, at: Facing) -> Facing
         requires some { (0 < at.marks.looks) × (0 < at.marks.ahead) }
-        requires room { Room (cells_of self.old) at }
+        requires room { Room (cells_of self.old) at.marks at.pending }
         ensures looks { Looks self.old.others.count (cells_of self.old) at (cells_of self.new) result }
         ensures others { self.new.others ≡ self.old.others }
         ensures slots { self.new.slots.now ≡ self.old.slots.now }
