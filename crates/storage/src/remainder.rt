@@ -33,7 +33,7 @@ pub struct Quotient {
     pub rest: Span,
 }
 
-// A polynomial to divide by, in one variable and `others` more.
+// A polynomial to divide by, in one variable and `others` more. The scratch and the arena stay two parameters: a step reads the arena while it writes the scratch, and then the other way round.
 #[derive(Clone, Copy)]
 pub struct Divisor {
     pub span: Span,

@@ -26,6 +26,7 @@ pub fn add_scaled(by: Term, polynomial: View, list: &Wide, out: &mut Wide)
 {
     out.clear();
     let mut place = Place { left: 0, right: 0 };
+    // A merge goes forward in two lists at once, so no `for` over one of them does it.
     while place.left < polynomial.len() {
         place = merge_next(by, polynomial, list, out, place);
     }

@@ -8,6 +8,7 @@ mod cells;
 // A step of a division adds up two products of 64 by 64 monomials.
 pub const ROOM: usize = 8192;
 
+// The memory is lent, so its length is fixed, and how many terms are written stands beside it.
 #[derive(Drop)]
 pub struct Wide<'a> {
     terms: &'a mut [Term],

@@ -32,9 +32,6 @@ scaled-left-requires c =
     let Size : Monomial → Type 0 = λ m. magnitude (c.args.by.coefficient *ℤ m.times) < 2 ^ 63 in
     record { key = subst Key (sym e) f.key; size = subst Size (sym e) f.size }
 
-pub push-requires : goal.push-requires
-push-requires c = omega (arith, c.requires.left, c.requires.right, c.requires.short, c.requires.fits.room)
-
 pub returns-then-place-len : goal.returns-then-place-len
 returns-then-place-len c =
     let p = scaled_by c.args.by c.args.polynomial in
@@ -42,9 +39,6 @@ returns-then-place-len c =
     let left = scaled_term c.args.by c.args.polynomial c.args.place.left c.term.result c.scaled-left.result c.requires.left c.term.ensures.value c.scaled-left.ensures in
     merged_end p q c.args.place.left c.args.place.right (written c.args.out.now) c.requires.short _
     (c.push.ensures ∙ ap (λ m. written c.args.out.now ++ m ∷ []) left) c.requires.left (c.if-place-len.true ∙ c.len.ensures)
-
-pub push-requires-in-Less : goal.push-requires-in-Less
-push-requires-in-Less c = omega (arith, c.requires.left, c.requires.right, c.requires.short, c.requires.fits.room)
 
 pub returns-in-Less : goal.returns-in-Less
 returns-in-Less c =
@@ -56,9 +50,6 @@ returns-in-Less c =
     merged_left p q c.args.place.left c.args.place.right (written c.args.out.now) c.requires.short _
     (c.push-in-Less.ensures ∙ ap (λ m. written c.args.out.now ++ m ∷ []) left) c.requires.left j
     (omega (arith, ap (λ m. m.key) left, ap (λ m. m.key) c.term-right.ensures, less))
-
-pub push-requires-in-Greater : goal.push-requires-in-Greater
-push-requires-in-Greater c = omega (arith, c.requires.left, c.requires.right, c.requires.short, c.requires.fits.room, c.len.ensures, c.if-place-len.false)
 
 pub returns-in-Greater : goal.returns-in-Greater
 returns-in-Greater c =

@@ -1,11 +1,11 @@
 -- The exponent is small, and so is its product with the coefficient.
-use Rattle.std.proofs.Common.{◌≡◌, ℕ, ◌-◌, ◌/◌, ◌^◌, ◌<◌, ◌≤◌, ℤ, pos, ◌*ℤ◌, sym, ap, ◌∙◌, subst, ap₂, mul-le-mul_right, div-le_self, arith, w64, SFits, to_z, of_z}
+use Rattle.std.proofs.Common.{◌≡◌, ℕ, ◌-◌, ◌/◌, ◌^◌, ◌<◌, ◌≤◌, ℤ, pos, ◌*ℤ◌, ap, ◌∙◌, ap₂, mul-le-mul_right, div-le_self, arith, w64, to_z, of_z}
 use Rattle.std.proofs.lemmas.Int.{to_z_pos}
 use Rattle.poly.specs.Modest.{magnitude}
 use Rattle.terms.specs.Monomial.{monomial}
 use Rattle.terms.proofs.Bounds.{size_product}
 use Rattle.packed.proofs.Places.{from_bits, mag_small}
-use Rattle.wide.proofs.Bounds.{from_size, size_fits}
+use Rattle.wide.proofs.Bounds.{from_size}
 use Rattle.wide.proofs.operations.slope.Goals as goal
 
 -- the exponent, read from its bits, and the coefficient
@@ -19,19 +19,9 @@ small key place x h g =
     let low : e ≤ 2 ^ 19 = omega (arith, div-le_self key place) in
     omega (arith, size_product (pos e) x, mul-le-mul_right {m = e} {n = 2 ^ 19} (magnitude x) low)
 
-pub overflow_mul-result : goal.overflow_mul-result
-overflow_mul-result c =
+pub returns-clause-value : goal.returns-clause-value
+returns-clause-value c =
     let k = c.args.term.key in
     let p = c.args.place in
     let x = c.args.term.coefficient in
-    subst (SFits w64) (sym (factors k p x c.requires.key.1 c.requires.size)) (size_fits _ (small k p x c.requires.key.1 c.requires.size))
-
-pub returns : goal.returns
-returns c =
-    let k = c.args.term.key in
-    let p = c.args.place in
-    let x = c.args.term.coefficient in
-    record {
-      value = ap (monomial (k - p)) (ap (λ z. to_z w64 (of_z w64 z)) (factors k p x c.requires.key.1 c.requires.size) ∙ from_size (pos (k / p) *ℤ x) (small k p x c.requires.key.1 c.requires.size));
-      bound = omega (arith, c.requires.key.1);
-    }
+    ap (monomial (k - p)) (ap (λ z. to_z w64 (of_z w64 z)) (factors k p x c.requires.key.1 c.requires.size) ∙ from_size (pos (k / p) *ℤ x) (small k p x c.requires.key.1 c.requires.size))

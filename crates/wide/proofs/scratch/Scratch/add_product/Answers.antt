@@ -1,6 +1,5 @@
 -- One merge for each monomial of the stretch, from the last to the first.
-use Rattle.std.proofs.Common.{◌≡◌, drop, sym, ap, ◌∙◌, arith}
-use Rattle.terms.specs.Operations.{add_product}
+use Rattle.std.proofs.Common.{sym, arith}
 use Rattle.packed.specs.Terms.{terms_in, monomial_in}
 use Rattle.packed.specs.StretchTerms.{stretch_terms}
 use Rattle.wide.specs.Written.{written}
@@ -10,9 +9,6 @@ use Rattle.wide.proofs.scratch.Scratch.add_product.Goals as goal
 
 pub loop-i-init : goal.loop-i-init
 loop-i-init c = sym (product_none (stretch_terms c.args.stretch) (terms_in c.args.polynomial) (written c.args.self.now.front) c.len-i.result (omega (arith, c.len-i.ensures.value)))
-
-pub term-requires : goal.term-requires
-term-requires c = omega (arith, c.loop-i-test.true, c.loop-i.auto.i, c.len-i.ensures.value)
 
 pub add_scaled-requires : goal.add_scaled-requires
 add_scaled-requires c =
@@ -25,8 +21,3 @@ loop-i-preserved c =
     product-step (stretch_terms c.args.stretch) (terms_in c.args.polynomial) (written c.args.self.now.front) (stretch_factor c.args.stretch)
     (view-factor c.args.polynomial) c.requires c.loop-i.i (monomial_in c.term.result) _ _ c.loop-i-test.true
     (omega (arith, c.loop-i.auto.i, c.len-i.ensures.value)) c.term.ensures.value c.loop-i.invariant c.add_scaled.ensures
-
-pub returns : goal.returns
-returns c =
-    let none : c.loop-i.i ≡ 0 = omega (arith, c.loop-i-test.false) in
-    c.loop-i.invariant ∙ ap (λ k. add_product (drop k (stretch_terms c.args.stretch)) (terms_in c.args.polynomial) (written c.args.self.now.front)) none

@@ -1,6 +1,6 @@
 -- The monomials that have the first variable, one at a time.
-use Rattle.std.proofs.Common.{◌^◌, ◌<◌, ◌≤◌, [], ◌∷◌, ◌++◌, length, drop, sym, ap, ◌∙◌, ap₂, append-nil, arith, length-append, drop_of_length-le}
-use Rattle.terms.specs.LeadingTerms.{slopes, count_below}
+use Rattle.std.proofs.Common.{◌^◌, ◌<◌, ◌≤◌, [], ◌∷◌, ◌++◌, length, sym, ap, ◌∙◌, ap₂, append-nil, arith, length-append, drop_of_length-le}
+use Rattle.terms.specs.LeadingTerms.{slopes}
 use Rattle.packed.specs.Terms.{terms_in, monomial_in}
 use Rattle.packed.proofs.Leading.{rising-above}
 use Rattle.packed.proofs.Lowered.{view-rising}
@@ -9,17 +9,6 @@ use Rattle.wide.specs.Written.{written}
 use Rattle.wide.specs.Slopes.{slope_by}
 use Rattle.wide.proofs.Slopes.{slopes_none, slopes-next}
 use Rattle.wide.proofs.scratch.Scratch.derivative.Goals as goal
-
-pub loop-i-init : goal.loop-i-init
-loop-i-init c = (
-  ap (λ w. w ++ slopes c.args.others.count (drop c.count_below-i.result (terms_in c.args.polynomial))) c.clear.ensures ∙
-      ap (λ n. slopes c.args.others.count (drop n (terms_in c.args.polynomial)))
-      (c.count_below-i.ensures ∙ ap (λ b. count_below b (terms_in c.args.polynomial)) c.digit_place-place.ensures.value),
-  omega (arith, ap length c.clear.ensures),
-)
-
-pub term-requires : goal.term-requires
-term-requires c = omega (arith, c.loop-i-test.true, c.len-i-end.ensures.value)
 
 pub slope-requires : goal.slope-requires
 slope-requires c =
@@ -32,9 +21,6 @@ slope-requires c =
       key = (omega (arith, high, ap (λ m. m.key) c.term.ensures.value), c.term.ensures.key);
       size = c.term.ensures.size;
     }
-
-pub push-requires : goal.push-requires
-push-requires c = omega (arith, c.loop-i.invariant.1, c.loop-i-test.true, c.len-i-end.ensures.bound)
 
 pub loop-i-preserved : goal.loop-i-preserved
 loop-i-preserved c =
