@@ -1,13 +1,18 @@
 -- The last monomials of a list whose keys rise, and those before them. Assumes nothing.
-use Rattle.std.proofs.Common.{◌≡◌, ℕ, zero, suc, ◌+◌, ◌-◌, ◌*◌, ◌^◌, ◌<◌, ◌≤◌, Bool, true, false, ltb, List, [], ◌∷◌, length, take, drop, ℤ, pos, sym, refl, ap, ◌∙◌, subst, ap₂, suc-le-suc, le_of_suc-le-suc, add-mul, add-one, arith, ltb→lt, nltb→le, length-drop, drop_of_length-le, length-take, drop-cons, le-ltb, lt-ltb}
+use Rattle.std.proofs.Common.{◌≡◌, ℕ, zero, suc, ◌+◌, ◌-◌, ◌*◌, ◌^◌, ◌<◌, ◌≤◌, Bool, true, false, cond, not, ltb, leb, List, [], ◌∷◌, length, take, drop, ℤ, pos, Some, None, position, sym, refl, ap, ◌∙◌, subst, ap₂, suc-le-suc, le_of_suc-le-suc, add-mul, add-one, arith, ltb→lt, nltb→le, leb→le, length-drop, length-take, drop-cons, le-ltb, lt-ltb}
+use Rattle.std.specs.List.{position_or_len}
+use Rattle.std.specs.Option.{unwrap_or}
+use Rattle.std.proofs.Math.Dec.{nleb→lt}
 use Rattle.std.proofs.lemmas.List.{get_or-drop}
+use Rattle.std.proofs.lemmas.List.Recursion.{is_position_or_len}
+use Rattle.std.proofs.lemmas.List.Sums.{prefix_len-le-length}
 use Rattle.terms.specs.Monomial.{Monomial, monomial, raised, Rising}
 use Rattle.terms.specs.LeadingTerms.{last_key, count_below, degree_terms, length_terms, leading_key, leading_terms, lowered}
 use Rattle.terms.specs.Sizes.{KeysBelow, SizesAtMost}
 use Rattle.terms.specs.Cells.{monomial_of, monomials_of}
 use Rattle.terms.proofs.Tests.{on_test}
 use Rattle.packed.specs.Stored.{Stored}
-use Rattle.packed.specs.Terms.{term_at}
+use Rattle.packed.specs.Terms.{term_at, term_of}
 
 pub last_none : (ts : List Monomial) → length ts ≡ 0 → last_key ts ≡ 0
 unfolding last_key
@@ -41,19 +46,28 @@ count_end : (b : ℕ) (m : Monomial) (ms : List Monomial) → b ≤ m.key → co
 unfolding counted
 count_end b m ms h = count_by b m ms ∙ ap (counted b m ms) (le-ltb m.key b h)
 
--- one more that is below
-pub below_more : (b : ℕ) (ts : List Monomial) (i : ℕ) → i < length ts → (term_at ts i).key < b → i + 1 + count_below b (drop (i + 1) ts) ≡ i + count_below b (drop i ts)
-below_more b ts i h l =
-    let e : count_below b (drop i ts) ≡ suc (count_below b (drop (i + 1) ts)) = ap (count_below b) (from_place ts i h) ∙ count_less b (term_at ts i) (drop (i + 1) ts) l in
-    omega arith
+count_none : (b : ℕ) → count_below b (monomials_of []) ≡ 0
+unfolding count_below monomials_of
+count_none b = refl
 
--- the first that isn't, or the end
-pub below_stop : (b : ℕ) (ts : List Monomial) (i : ℕ) → i < length ts → b ≤ (term_at ts i).key → count_below b (drop i ts) ≡ 0
-below_stop b ts i h l = ap (count_below b) (from_place ts i h) ∙ count_end b (term_at ts i) (drop (i + 1) ts) l
+count_more : (b : ℕ) (z : ℤ) (zs : List ℤ) → count_below b (monomials_of (z ∷ zs)) ≡ cond (leb b (term_of z).key) 0 (1 + count_below b (monomials_of zs))
+unfolding monomials_of
+count_more b z zs =
+    on_test (leb b (term_of z).key) (λ t. count_below b (monomial_of z ∷ monomials_of zs) ≡ cond t 0 (1 + count_below b (monomials_of zs)))
+    (λ t. count_end b (monomial_of z) (monomials_of zs) (leb→le b (term_of z).key t))
+    (λ t. let e = count_less b (monomial_of z) (monomials_of zs) (nleb→lt b (term_of z).key t) in omega arith)
 
-pub below_end : (b : ℕ) (ts : List Monomial) (i : ℕ) → length ts ≤ i → count_below b (drop i ts) ≡ 0
-unfolding count_below
-below_end b ts i h = ap (count_below b) (drop_of_length-le ts h)
+-- what is counted are the numbers before the first whose key is high enough
+count_cells : (b : ℕ) (zs : List ℤ) → count_below b (monomials_of zs) ≡ position_or_len (λ z. leb b (term_of z).key) zs
+count_cells b zs = is_position_or_len (λ ys. count_below b (monomials_of ys)) (λ z. leb b (term_of z).key) (count_none b) (count_more b) zs
+
+-- the place of the first, or the end
+pub first_or_end : (b : ℕ) (zs : List ℤ) → unwrap_or (position (λ z. leb b (term_of z).key) zs) (length zs) ≡ count_below b (monomials_of zs)
+first_or_end b zs = here (position_or_len (λ z. leb b (term_of z).key) zs) (prefix_len-le-length (λ z. not (leb b (term_of z).key)) zs) ∙ sym (count_cells b zs)
+  where
+    here : (n : ℕ) → n ≤ length zs → unwrap_or (cond (ltb n (length zs)) (Some n) None) (length zs) ≡ n
+    here n h =
+        on_test (ltb n (length zs)) (λ t. unwrap_or (cond t (Some n) None) (length zs) ≡ n) (λ t. refl) (λ t. let l = nltb→le n (length zs) t in omega arith)
 
 pub below-most : (b : ℕ) (ts : List Monomial) → count_below b ts ≤ length ts
 below-most b [] = none b

@@ -1,5 +1,5 @@
 -- The monomial at a place of a list. Assumes nothing.
-use Rattle.std.proofs.Common.{◌≡◌, ℕ, zero, suc, ◌^◌, ◌<◌, ◌≤◌, List, [], ◌∷◌, length, get_or, ℤ, pos, refl, ap, le_of_suc-le-suc, arith, w64, to_z, of_z}
+use Rattle.std.proofs.Common.{◌≡◌, ℕ, zero, suc, ◌^◌, ◌<◌, ◌≤◌, List, [], ◌∷◌, length, get_or, ℤ, pos, negsuc, refl, ap, le_of_suc-le-suc, arith, w64, to_z, of_z}
 use lib.Signed.{mag}
 use Rattle.std.proofs.lemmas.Int.{to_z-of_z}
 use Rattle.poly.specs.Modest.{magnitude}
@@ -39,3 +39,7 @@ rising-keys lo hi (t ∷ ts) r = (r.1, rising-keys (suc t.key) hi ts r.3)
 -- a number from its bits
 pub from_bits : (z : ℤ) → mag z < 2 ^ 63 → to_z w64 (of_z w64 z) ≡ z
 from_bits z h = to_z-of_z w64 z (record { sfits = h })
+
+pub mag_small : (z : ℤ) → magnitude z < 2 ^ 63 → mag z < 2 ^ 63
+mag_small (pos n) h = h
+mag_small (negsuc n) h = omega arith

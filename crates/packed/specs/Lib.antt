@@ -3,3 +3,4 @@ pub mod Stored
 pub mod Terms
 pub mod StretchTerms
 pub mod Signed
+pub mod Same

@@ -2,6 +2,7 @@
 #![tactic(auto)]
 
 pub mod equality;
-pub mod place;
 pub mod stretch;
+pub mod term;
+pub mod variables;
 pub mod view;

@@ -1,16 +1,21 @@
 -- Operands read where they lie, and what is stored in their place.
 use Rattle.std.proofs.Common.{◌≡◌, ℕ, ◌+◌, ◌≤◌, min, ◌⊎◌, List, [], ◌++◌, length, take, drop, ℤ, Some, None, Option, sym, refl, ap, ◌∙◌, subst, ap₂, inl, inr, append_assoc, append-nil, arith, length-append, take-append-drop, length-take, take-take}
 use lib.Seq.{take-append-le, take-append_seam, drop-append_seam}
+use Rattle.field.specs.Sentence.{Term}
 use Rattle.poly.specs.Poly.{Poly}
-use Rattle.poly.specs.Modest.{Checked, TooBig, Fine, checked, on_both}
+use Rattle.poly.specs.Modest.{Checked, TooBig, Fine, checked, on_both, term_poly}
 use Rattle.terms.specs.Monomial.{Monomial}
 use Rattle.terms.specs.Cells.{monomials_of}
 use Rattle.arena.specs.Growth.{Grown}
 use Rattle.packed.specs.Stored.{Stored}
 use Rattle.storage.specs.Spans.{cells_at, terms_at, Holds}
 use Rattle.storage.specs.Denoting.{Denotes, Checks}
+use Rattle.storage.proofs.Denoting.{denoting_laws}
 use Rattle.sentence_tree.specs.Placed.{Stays, Standing, Placed, Places}
 use Rattle.sentence_tree.specs.declared.operation.Operands.{Operands}
+use Rattle.sentence_tree.specs.declared.operation.Operation.{Operation}
+use Rattle.sentence_tree.specs.declared.operation.Operation.TheVariants.{Sum, Product}
+use Rattle.sentence_tree.specs.Operations.{combined, combined_lists, combined_term}
 use Rattle.sentence_tree.specs.Operands.{span, BothHeld, Ready, Joins}
 
 -- what stands from a mark on
@@ -162,3 +167,13 @@ module _ (join : List Monomial → List Monomial → List Monomial) (op : ℕ �
       nothing e (Fine p) TooBig px py s = s
       nothing (inl e) (Fine p) (Fine q) px py s = absurd (subst (λ u. Placed n (Fine p) u o.mark base middle between) e px)
       nothing (inr e) (Fine p) (Fine q) px py s = absurd (subst (λ u. Placed n (Fine q) u middle between top cells) e py)
+
+pub combines : (o : Operation) → Combines (combined_lists o) (combined o)
+combines Sum = denoting_laws.sum_checks
+combines Product = denoting_laws.product_checks
+
+-- the polynomial of what is made of two terms
+pub combined-poly : (o : Operation) (n : ℕ) (s t : Term) → term_poly n (combined_term o s t) ≡ on_both (λ p q. checked n (combined o n p q)) (term_poly n s) (term_poly n t)
+unfolding term_poly
+combined-poly Sum n s t = refl
+combined-poly Product n s t = refl

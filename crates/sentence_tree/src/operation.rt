@@ -1,13 +1,18 @@
 // Operations of terms: their polynomials at the top of an arena, or none where one isn't modest.
-ghost use Rattle.std.specs.Prelude.{◌≡◌, ◌+◌, ◌^◌, ◌≤◌, length};
-ghost use Rattle.poly.specs.Arithmetic.{constant, variable, sum, product};
+// The scratch and the arena are two parameters: with both in one struct, each contract would say besides that the struct's references and its variables stay the same.
+ghost use Rattle.std.specs.Prelude.{◌≡◌, ℕ, ◌+◌, ◌^◌, ◌≤◌, length};
+ghost use Rattle.poly.specs.Arithmetic.{constant, variable};
 ghost use Rattle.poly.specs.Modest.{checked};
 ghost use Rattle.terms.specs.Monomial.{Rising};
+ghost use Rattle.packed.specs.Terms.{terms_in};
 ghost use Rattle.wide.specs.Written.{written};
+ghost use Rattle.sentence_tree.specs.Operations.{combined, combined_lists};
 ghost use Rattle.sentence_tree.specs.Operands.{Ready, Joins};
 ghost use Rattle.sentence_tree.specs.Placed.{Placed, Places};
 
 use arena::arena::Arena;
+use packed::variables::Variables;
+use packed::view::View;
 use storage::pack::pack;
 use storage::remainder::view;
 use storage::span::Span;
@@ -21,22 +26,13 @@ fn place(list: &Wide, arena: &mut Arena) -> Option<usize>
     ensures placed { Places (written list.now) result arena.old.top arena.old.cells.now arena.new.top arena.new.cells.now }
     ensures lent { arena.new.cells.ghost_name ≡ arena.old.cells.ghost_name }
 {
-    match pack(list, arena) {
-        Ok(count) => Some(count),
-        Err(_) => None,
-    }
+    pack(list, arena).ok()
 }
 
-// A number, in so many variables.
-pub fn place_number(
-    scratch: &mut Scratch,
-    arena: &mut Arena,
-    variables: u8,
-    number: i64,
-) -> Option<usize>
-    requires few { variables ≤ 4 }
+// A number, in however many variables.
+pub fn place_number(scratch: &mut Scratch, arena: &mut Arena, number: i64) -> Option<usize>
     requires room { arena.old.top + 64 ≤ length arena.old.cells.now }
-    ensures placed { Placed variables (checked variables (constant variables number)) result arena.old.top arena.old.cells.now arena.new.top arena.new.cells.now }
+    ensures placed { (n : ℕ) → n ≤ 4 → Placed n (checked n (constant n number)) result arena.old.top arena.old.cells.now arena.new.top arena.new.cells.now }
     ensures lent { arena.new.cells.ghost_name ≡ arena.old.cells.ghost_name }
 {
     scratch.number(number);
@@ -47,15 +43,14 @@ pub fn place_number(
 pub fn place_variable(
     scratch: &mut Scratch,
     arena: &mut Arena,
-    variables: u8,
+    variables: Variables,
     i: u8,
 ) -> Option<usize>
-    requires few { variables ≤ 4 }
     requires room { arena.old.top + 64 ≤ length arena.old.cells.now }
-    ensures placed { Placed variables (checked variables (variable variables i)) result arena.old.top arena.old.cells.now arena.new.top arena.new.cells.now }
+    ensures placed { Placed variables.count (checked variables.count (variable variables.count i)) result arena.old.top arena.old.cells.now arena.new.top arena.new.cells.now }
     ensures lent { arena.new.cells.ghost_name ≡ arena.old.cells.ghost_name }
 {
-    scratch.variable(u32::from(variables), u32::from(i));
+    scratch.variable(variables, u32::from(i));
     place(&scratch.front, arena)
 }
 
@@ -67,44 +62,38 @@ pub struct Operands {
     pub right: Option<usize>,
 }
 
-// Their sum in place of them.
-pub fn place_sum(scratch: &mut Scratch, arena: &mut Arena, operands: Operands) -> Option<usize>
-    requires ready { Ready operands arena.old.top arena.old.cells.now }
-    ensures placed { Joins sum operands result arena.old.top arena.old.cells.now arena.new.top arena.new.cells.now }
-    ensures lent { arena.new.cells.ghost_name ≡ arena.old.cells.ghost_name }
-{
-    let Some(left) = operands.left else {
-        arena.release(operands.mark);
-        return None;
-    };
-    let Some(right) = operands.right else {
-        arena.release(operands.mark);
-        return None;
-    };
-    let first = Span {
-        from: operands.mark,
-        count: left,
-    };
-    let second = Span {
-        from: operands.mark + left,
-        count: right,
-    };
-    scratch.sum(view(arena, first), view(arena, second));
-    arena.release(operands.mark);
-    place(&scratch.front, arena)
+// What is made of two terms.
+#[derive(Clone, Copy, PartialEq, Eq, Debug)]
+pub enum Operation {
+    Sum,
+    Product,
 }
 
-// Their product in place of them.
-pub fn place_product(scratch: &mut Scratch, arena: &mut Arena, operands: Operands) -> Option<usize>
+impl Operation {
+    // Of two stored polynomials, at the front of the scratch.
+    fn compute(self, scratch: &mut Scratch, left: View, right: View)
+        ensures value { written scratch.new.front ≡ combined_lists self (terms_in left.entry) (terms_in right.entry) }
+        ensures rising { Rising 0 (2 ^ 20) (written scratch.new.front) }
+    {
+        match self {
+            Operation::Sum => scratch.sum(left, right),
+            Operation::Product => scratch.product(left, right),
+        }
+    }
+}
+
+// What is made of two operands, in place of them.
+pub fn place_combined(
+    scratch: &mut Scratch,
+    arena: &mut Arena,
+    operation: Operation,
+    operands: Operands,
+) -> Option<usize>
     requires ready { Ready operands arena.old.top arena.old.cells.now }
-    ensures placed { Joins product operands result arena.old.top arena.old.cells.now arena.new.top arena.new.cells.now }
+    ensures placed { Joins (combined operation) operands result arena.old.top arena.old.cells.now arena.new.top arena.new.cells.now }
     ensures lent { arena.new.cells.ghost_name ≡ arena.old.cells.ghost_name }
 {
-    let Some(left) = operands.left else {
-        arena.release(operands.mark);
-        return None;
-    };
-    let Some(right) = operands.right else {
+    let (Some(left), Some(right)) = (operands.left, operands.right) else {
         arena.release(operands.mark);
         return None;
     };
@@ -116,7 +105,7 @@ pub fn place_product(scratch: &mut Scratch, arena: &mut Arena, operands: Operand
         from: operands.mark + left,
         count: right,
     };
-    scratch.product(view(arena, first), view(arena, second));
+    operation.compute(scratch, view(arena, first), view(arena, second));
     arena.release(operands.mark);
     place(&scratch.front, arena)
 }

@@ -4,7 +4,7 @@ ghost use Rattle.poly.specs.Modest.{magnitude};
 ghost use Rattle.terms.specs.ModestTerms.{small_key, small_terms, last_digits, modest_terms};
 ghost use Rattle.wide.specs.Written.{written};
 
-use wide::term::Term;
+use packed::term::Term;
 use wide::wide::Wide;
 
 // How many numbers a polynomial may hold.
@@ -39,13 +39,11 @@ fn is_small_key(key: u64) -> bool
     ensures { result ≡ small_key 4 key }
 {
     let mut rest = key;
-    let mut digits = 4u32;
-    while digits > 0 {
+    for _ in 0..4u32 {
         if rest % 32 > 8 {
             return false;
         }
         rest /= 32;
-        digits -= 1;
     }
     true
 }

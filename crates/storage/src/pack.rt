@@ -3,12 +3,13 @@ ghost use Rattle.std.specs.Prelude.{◌≡◌, ℕ, ◌+◌, ◌^◌, ◌<◌, �
 ghost use Rattle.poly.specs.Modest.{magnitude};
 ghost use Rattle.terms.specs.Monomial.{Rising};
 ghost use Rattle.terms.specs.Cells.{cell_of};
-ghost use Rattle.wide.specs.Written.{written, monomial_in};
+ghost use Rattle.packed.specs.Terms.{monomial_in};
+ghost use Rattle.wide.specs.Written.{written};
 ghost use Rattle.storage.specs.Storing.{stored};
 
 use crate::modest::is_modest;
 use arena::arena::Arena;
-use wide::term::Term;
+use packed::term::Term;
 use wide::wide::Wide;
 
 // The polynomial isn't modest.
@@ -29,6 +30,17 @@ pub fn pack(list: &Wide, arena: &mut Arena) -> Result<usize, TooBig>
         arena.put(cell(list.term(i)));
     }
     Ok(list.len())
+}
+
+// The same, in place of what stands from a mark on.
+pub fn pack_at(list: &Wide, arena: &mut Arena, mark: usize) -> Result<usize, TooBig>
+    requires rising { Rising 0 (2 ^ 20) (written list.now) }
+    requires room { (mark ≤ arena.old.top) × (mark + 64 ≤ length arena.old.cells.now) }
+    ensures stored { stored result (written list.now) mark arena.old.cells.now arena.new.top arena.new.cells.now }
+    ensures lent { arena.new.cells.ghost_name ≡ arena.old.cells.ghost_name }
+{
+    arena.release(mark);
+    pack(list, arena)
 }
 
 // A monomial as one number.

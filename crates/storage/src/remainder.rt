@@ -10,10 +10,11 @@ ghost use Rattle.storage.specs.Denoting.{Denotes};
 ghost use Rattle.storage.specs.Dividing.{exchanges_sign, divided, remains};
 ghost use Rattle.storage.specs.Spans.{Holds, terms_at};
 
-use crate::pack::{TooBig, pack};
+use crate::pack::{TooBig, pack_at};
 use crate::span::Span;
 use arena::arena::Arena;
 use field::sign::Sign;
+use packed::variables::Variables;
 use packed::view::View;
 use wide::scratch::Scratch;
 
@@ -32,41 +33,101 @@ pub struct Quotient {
     pub rest: Span,
 }
 
-// The remainder of the dividend by a divisor that isn't zero, its sign exchanged where the count of steps is odd and the divisor's leading coefficient negative.
-// It lies at the arena's old top, or is the dividend itself if there was no step; where a step isn't modest the arena is left at its old top.
-pub fn remainder(
-    scratch: &mut Scratch,
-    arena: &mut Arena,
-    divisor: Span,
-    dividend: Span,
-    others: u32,
-    leading: Sign,
-) -> Result<Span, TooBig>
-    requires few { others < 4 }
-    requires divisor { (Holds divisor arena.old.top arena.old.cells.now) × (((p : Poly) × Denotes (suc others) (terms_at divisor arena.old.cells.now) p)) }
-    requires dividend { (Holds dividend arena.old.top arena.old.cells.now) × (((s : Poly) × Denotes (suc others) (terms_at dividend arena.old.cells.now) s)) }
-    requires real { 0 < length_terms others (terms_at divisor arena.old.cells.now) }
-    requires room { arena.old.top + 64 ≤ length arena.old.cells.now }
-    ensures value { remains result others leading (terms_at divisor arena.old.cells.now) (terms_at dividend arena.old.cells.now) arena.old.top arena.old.cells.now arena.new.top arena.new.cells.now }
-    ensures lent { arena.new.cells.ghost_name ≡ arena.old.cells.ghost_name }
-{
-    let mark = arena.top();
-    let quotient = divide(scratch, arena, divisor, dividend, others)?;
-    if exchanges(quotient.steps, leading) {
-        let count = exchange(scratch, arena, mark, quotient.rest)?;
-        return Ok(Span { from: mark, count });
+// A polynomial to divide by, in one variable and `others` more. The scratch and the arena stay two parameters: a step reads the arena while it writes the scratch, and then the other way round.
+#[derive(Clone, Copy)]
+pub struct Divisor {
+    pub span: Span,
+    pub others: Variables,
+    pub ghost few: { others.count < 4 },
+}
+
+impl Divisor {
+    // The remainder of the dividend by a divisor that isn't zero, its sign exchanged where the count of steps is odd and the divisor's leading coefficient negative.
+    // That is a sum of the dividend's multiple by a positive number and a multiple of the divisor. What lies above the top is used, and the remainder lies there, or it is the dividend.
+    pub fn remainder(
+        self,
+        scratch: &mut Scratch,
+        arena: &mut Arena,
+        dividend: Span,
+        leading: Sign,
+    ) -> Result<Span, TooBig>
+        requires divisor { (Holds self.span arena.old.top arena.old.cells.now) × (((p : Poly) × Denotes (suc self.others.count) (terms_at self.span arena.old.cells.now) p)) }
+        requires dividend { (Holds dividend arena.old.top arena.old.cells.now) × (((s : Poly) × Denotes (suc self.others.count) (terms_at dividend arena.old.cells.now) s)) }
+        requires real { 0 < length_terms self.others.count (terms_at self.span arena.old.cells.now) }
+        requires room { arena.old.top + 64 ≤ length arena.old.cells.now }
+        ensures value { remains result self.others.count leading (terms_at self.span arena.old.cells.now) (terms_at dividend arena.old.cells.now) arena.old.top arena.old.cells.now arena.new.top arena.new.cells.now }
+        ensures lent { arena.new.cells.ghost_name ≡ arena.old.cells.ghost_name }
+    {
+        let mark = arena.top();
+        let quotient = self.divide(scratch, arena, dividend)?;
+        if exchanges(quotient.steps, leading) {
+            let count = exchange(scratch, arena, mark, quotient.rest)?;
+            return Ok(Span { from: mark, count });
+        }
+        Ok(quotient.rest)
     }
-    Ok(quotient.rest)
+
+    // Divides until what is left has fewer coefficients than the divisor.
+    fn divide(
+        self,
+        scratch: &mut Scratch,
+        arena: &mut Arena,
+        dividend: Span,
+    ) -> Result<Quotient, TooBig>
+        requires divisor { (Holds self.span arena.old.top arena.old.cells.now) × (((p : Poly) × Denotes (suc self.others.count) (terms_at self.span arena.old.cells.now) p)) }
+        requires dividend { (Holds dividend arena.old.top arena.old.cells.now) × (((s : Poly) × Denotes (suc self.others.count) (terms_at dividend arena.old.cells.now) s)) }
+        requires real { 0 < length_terms self.others.count (terms_at self.span arena.old.cells.now) }
+        requires room { arena.old.top + 64 ≤ length arena.old.cells.now }
+        ensures value { divided result self.others.count (terms_at self.span arena.old.cells.now) (terms_at dividend arena.old.cells.now) arena.old.top arena.old.cells.now arena.new.top arena.new.cells.now }
+        ensures lent { arena.new.cells.ghost_name ≡ arena.old.cells.ghost_name }
+    {
+        let mark = arena.top();
+        let most = view(arena, dividend).coefficient_count(self.others) + 1;
+        let mut rest = dividend;
+        for steps in 0..most {
+            if !self.has_step(arena, rest) {
+                return Ok(Quotient { steps, rest });
+            }
+            let count = self.divide_once(scratch, arena, mark, rest)?;
+            rest = Span { from: mark, count };
+        }
+        Ok(Quotient { steps: most, rest })
+    }
+
+    // Whether the dividend has at least as many coefficients as the divisor.
+    fn has_step(self, arena: &Arena, dividend: Span) -> bool
+        requires spans { (Holds self.span arena.now.top arena.now.cells.now) × (Holds dividend arena.now.top arena.now.cells.now) }
+        ensures { result ≡ nat_le (length_terms self.others.count (terms_at self.span arena.now.cells.now)) (length_terms self.others.count (terms_at dividend arena.now.cells.now)) }
+    {
+        view(arena, self.span).coefficient_count(self.others)
+            <= view(arena, dividend).coefficient_count(self.others)
+    }
+
+    // One step of the division, stored at the mark in place of what stood there.
+    fn divide_once(
+        self,
+        scratch: &mut Scratch,
+        arena: &mut Arena,
+        mark: usize,
+        dividend: Span,
+    ) -> Result<usize, TooBig>
+        requires spans { (Holds self.span arena.old.top arena.old.cells.now) × (Holds dividend arena.old.top arena.old.cells.now) }
+        requires real { 0 < length_terms self.others.count (terms_at self.span arena.old.cells.now) }
+        requires over { length_terms self.others.count (terms_at self.span arena.old.cells.now) ≤ length_terms self.others.count (terms_at dividend arena.old.cells.now) }
+        requires room { (mark ≤ arena.old.top) × (mark + 64 ≤ length arena.old.cells.now) }
+        ensures stored { stored result (step_terms self.others.count (terms_at self.span arena.old.cells.now) (terms_at dividend arena.old.cells.now)) mark arena.old.cells.now arena.new.top arena.new.cells.now }
+        ensures lent { arena.new.cells.ghost_name ≡ arena.old.cells.ghost_name }
+    {
+        scratch.division_step(view(arena, self.span), view(arena, dividend), self.others);
+        pack_at(&scratch.front, arena, mark)
+    }
 }
 
 // Whether an odd number of steps by a negative leading coefficient has turned the sign.
 fn exchanges(steps: u64, leading: Sign) -> bool
     ensures { result ≡ exchanges_sign steps leading }
 {
-    match leading {
-        Sign::Neg => steps % 2 == 1,
-        Sign::Zero | Sign::Pos => false,
-    }
+    leading == Sign::Neg && steps % 2 == 1
 }
 
 // The negative of what is stored at a span, stored at the mark in place of what stood there.
@@ -82,71 +143,5 @@ fn exchange(
     ensures lent { arena.new.cells.ghost_name ≡ arena.old.cells.ghost_name }
 {
     scratch.negative(view(arena, span));
-    arena.release(mark);
-    pack(&scratch.front, arena)
-}
-
-// Divides until what is left has fewer coefficients than the divisor.
-fn divide(
-    scratch: &mut Scratch,
-    arena: &mut Arena,
-    divisor: Span,
-    dividend: Span,
-    others: u32,
-) -> Result<Quotient, TooBig>
-    requires few { others < 4 }
-    requires divisor { (Holds divisor arena.old.top arena.old.cells.now) × (((p : Poly) × Denotes (suc others) (terms_at divisor arena.old.cells.now) p)) }
-    requires dividend { (Holds dividend arena.old.top arena.old.cells.now) × (((s : Poly) × Denotes (suc others) (terms_at dividend arena.old.cells.now) s)) }
-    requires real { 0 < length_terms others (terms_at divisor arena.old.cells.now) }
-    requires room { arena.old.top + 64 ≤ length arena.old.cells.now }
-    ensures value { divided result others (terms_at divisor arena.old.cells.now) (terms_at dividend arena.old.cells.now) arena.old.top arena.old.cells.now arena.new.top arena.new.cells.now }
-    ensures lent { arena.new.cells.ghost_name ≡ arena.old.cells.ghost_name }
-{
-    let mark = arena.top();
-    let mut fuel = view(arena, dividend).coefficient_count(others) + 1;
-    let mut quotient = Quotient {
-        steps: 0,
-        rest: dividend,
-    };
-    while fuel > 0 && has_step(arena, divisor, quotient.rest, others) {
-        let count = divide_once(scratch, arena, mark, divisor, quotient.rest, others)?;
-        quotient = Quotient {
-            steps: quotient.steps + 1,
-            rest: Span { from: mark, count },
-        };
-        fuel -= 1;
-    }
-    Ok(quotient)
-}
-
-// Whether the dividend has at least as many coefficients as the divisor.
-fn has_step(arena: &Arena, divisor: Span, dividend: Span, others: u32) -> bool
-    requires few { others ≤ 4 }
-    requires spans { (Holds divisor arena.now.top arena.now.cells.now) × (Holds dividend arena.now.top arena.now.cells.now) }
-    ensures { result ≡ nat_le (length_terms others (terms_at divisor arena.now.cells.now)) (length_terms others (terms_at dividend arena.now.cells.now)) }
-{
-    view(arena, divisor).coefficient_count(others)
-        <= view(arena, dividend).coefficient_count(others)
-}
-
-// One step of the division, stored at the mark in place of what stood there.
-fn divide_once(
-    scratch: &mut Scratch,
-    arena: &mut Arena,
-    mark: usize,
-    divisor: Span,
-    dividend: Span,
-    others: u32,
-) -> Result<usize, TooBig>
-    requires few { others ≤ 4 }
-    requires spans { (Holds divisor arena.old.top arena.old.cells.now) × (Holds dividend arena.old.top arena.old.cells.now) }
-    requires real { 0 < length_terms others (terms_at divisor arena.old.cells.now) }
-    requires over { length_terms others (terms_at divisor arena.old.cells.now) ≤ length_terms others (terms_at dividend arena.old.cells.now) }
-    requires room { (mark ≤ arena.old.top) × (mark + 64 ≤ length arena.old.cells.now) }
-    ensures stored { stored result (step_terms others (terms_at divisor arena.old.cells.now) (terms_at dividend arena.old.cells.now)) mark arena.old.cells.now arena.new.top arena.new.cells.now }
-    ensures lent { arena.new.cells.ghost_name ≡ arena.old.cells.ghost_name }
-{
-    scratch.division_step(view(arena, divisor), view(arena, dividend), others);
-    arena.release(mark);
-    pack(&scratch.front, arena)
+    pack_at(&scratch.front, arena, mark)
 }

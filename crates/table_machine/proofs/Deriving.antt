@@ -61,17 +61,14 @@ length-cells [] = refl
 length-cells (m ∷ ms) = ap suc (length-cells ms)
 
 -- monomials of a slot that were pushed
-pub pushed-loaded : (n : ℕ) (slots : List ℤ) (slot count : ℕ) (new : List ℤ) (from top : ℕ) (cells : List ℤ) (top' : ℕ) (after : List ℤ) → AllHold n slots → from ≡ top →
+pub pushed-loaded : (slots : List ℤ) (slot count : ℕ) (new : List ℤ) (from top : ℕ) (cells : List ℤ) (top' : ℕ) (after : List ℤ) → Stored (take count (slot_in slots slot)) → from ≡ top →
     new ≡ take count (slot_in slots slot) → top ≤ length cells → Grown new top cells top' after → Loaded slots slot count (record { from = from; count = length new }) top cells top' after
-pushed-loaded n slots slot count new from top cells top' after h f e r g =
+pushed-loaded slots slot count new from top cells top' after h f e r g =
     let same : take (length new) (drop from after) ≡ new = ap (λ k. take (length new) (drop k after)) f ∙ pushed-part new cells after top top' (length new) g refl r in
     record {
-      holds = record { below = omega (arith, g.higher); good = subst Stored (sym (same ∙ e)) (slot_laws.front_holds n (slot_in slots slot) count (h slot)).stored };
+      holds = record { below = omega (arith, g.higher); good = subst Stored (sym (same ∙ e)) h };
       same = same ∙ e;
       below = below-kept new cells after top top' g r;
       long = g.long;
       above = omega (arith, g.higher);
     }
-
-pub front-few : (n : ℕ) (slots : List ℤ) (slot count : ℕ) (new : List ℤ) → AllHold n slots → new ≡ take count (slot_in slots slot) → length new ≤ 64
-front-few n slots slot count new h e = subst (λ z. length z ≤ 64) (sym e) (slot_laws.front_holds n (slot_in slots slot) count (h slot)).stored.short

@@ -9,8 +9,8 @@ use Rattle.machine.proofs.Advances.{stacks_mirror}
 use Rattle.question.specs.declared.tree.Tree.{Tree}
 use Rattle.stacks.specs.declared.marks.Marks.{Marks}
 use Rattle.stacks.specs.Memories.{Cells, marks_from, memory_of}
-use Rattle.table_machine.specs.declared.arrays.Top.{Top}
-use Rattle.table_machine.specs.Settling.{Fitting}
+use Rattle.table_machine.specs.declared.outlook.Top.{Top}
+use Rattle.table_machine.specs.Fitting.{Fitting}
 use Rattle.table_machine.specs.Reals.{table_left, reals_from, FoundHighest}
 use Rattle.table_machine.specs.Foreseeing.{GivesUp}
 use Rattle.table_machine.proofs.Realness.{turned_forth}

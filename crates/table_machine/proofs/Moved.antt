@@ -1,36 +1,31 @@
 -- The steps of the machine that look at a polynomial, on its arrays. Assumes nothing.
-use Rattle.std.proofs.Common.{◌≡◌, ℕ, suc, ◌+◌, ◌-◌, ◌<◌, true, false, List, length, take, ℤ, sym, refl, ap, ◌∙◌, subst, ap₂, arith, take_all}
+use Rattle.std.proofs.Common.{◌≡◌, ℕ, zero, suc, ◌+◌, ◌-◌, ◌<◌, min, true, false, List, length, take, ℤ, sym, refl, ap, ◌∙◌, subst, ap₂, arith, length-take, take_all}
 use Rattle.field.specs.declared.sign.Sign.{Sign}
 use Rattle.field.specs.declared.sign.Sign.TheVariants.{Neg, Zero, Pos}
-use Rattle.poly.specs.Poly.{is_zero}
+use Rattle.poly.specs.Poly.{Poly, is_zero}
 use Rattle.poly.specs.Leading.{leading}
 use Rattle.sign_table.specs.Tree as sign
 use Rattle.sign_table.specs.Facts.{Unknown, Is}
 use Rattle.machine.specs.Machine as machine
-use Rattle.machine.specs.Machine.{Run}
+use Rattle.machine.specs.Machine.{Run, start}
 use Rattle.machine.specs.Stacks as stack
-use Rattle.machine.specs.Stacks.{Agree, Sound, Untouched, passed, signed, with_one_fact}
+use Rattle.machine.specs.Stacks.{Agree, Sound, Untouched, passed, signed, with_one_fact, forth, polys_forth, state_of}
 use Rattle.machine.specs.Theorems.{Advances, nothing_more}
 use Rattle.machine.specs.Counts.{noted}
 use Rattle.machine.proofs.Advances.{stacks_mirror}
 use Rattle.question.specs.declared.tree.Tree.{Tree}
 use Rattle.stacks.specs.declared.marks.Marks.{Marks}
-use Rattle.stacks.specs.declared.marks.Branch.{Branch}
 use Rattle.stacks.specs.declared.marks.Branch.TheVariants.{Above, At, Below}
 use Rattle.stacks.specs.declared.marks.Question.{Question}
-use Rattle.stacks.specs.Written.{Written}
 use Rattle.stacks.specs.Values.{left_in, fact_in, question_in}
 use Rattle.stacks.specs.Slots.{slot_in}
 use Rattle.stacks.specs.Memories.{Cells, poly_of, left_from, fact_from, question_from, exploring, marks_from, memory_of}
-use Rattle.table_machine.specs.declared.arrays.Facing.{Facing}
+use Rattle.table_machine.specs.declared.facing.Facing.{Facing}
 use Rattle.table_machine.specs.Cells.{rewritten}
 use Rattle.table_machine.specs.Settling.{Settles}
-use Rattle.table_machine.specs.Moving.{current_poly, current_known, Moves, PassesZero, one_fact, Explores, SameLengths, Finishes, Begins}
+use Rattle.table_machine.specs.Moving.{current_poly, current_known, Moves, PassesZero, one_fact, Explores, Finishes}
 
-abbrev pub facing_at : Marks → ℕ → Facing
-facing_at m k = record { marks = m; pending = k }
-
-pub agree : (n : ℕ) (trees : Tree → sign.Tree) (c : Cells) (lefts facts questions : List ℤ) (m : Marks) (k : ℕ) →
+agree : (n : ℕ) (trees : Tree → sign.Tree) (c : Cells) (lefts facts questions : List ℤ) (m : Marks) (k : ℕ) →
     ((i : ℕ) → i < m.base + m.done → left_in lefts i ≡ left_in c.lefts i) →
     ((i : ℕ) → i < m.facts → fact_in facts i ≡ fact_in c.facts i) →
     ((i : ℕ) → i < k → question_in questions i ≡ question_in c.questions i) →
@@ -44,63 +39,55 @@ agree n trees c lefts facts questions m k l f q =
       questions = λ i h. ap (question_from n trees c.slots) (q i h);
     }
 
-pub moves_zero : (n : ℕ) (c : Cells) (m : Marks) (k : ℕ) (lefts : List ℤ) (r : Marks) → 0 < m.looks → 0 < m.ahead → is_zero (current_poly n c.slots m) ≡ true →
-    PassesZero n c m lefts r → Moves n c (facing_at m k) (rewritten c lefts c.facts c.questions) (facing_at r k) 0
-moves_zero n c m k lefts r looks ahead z p trees run sound =
+pub moves_zero : (n : ℕ) (c : Cells) (f : Facing) (lefts : List ℤ) (g : Facing) → 0 < f.marks.looks → 0 < f.marks.ahead → is_zero (current_poly n c.slots f.marks) ≡ true →
+    PassesZero n c f.marks lefts g.marks → g.pending ≡ f.pending → Moves n c f (rewritten c lefts c.facts c.questions) g 0
+moves_zero n c f lefts g looks ahead z p q trees run sound =
+    let m = f.marks in
     let new = memory_of n trees (rewritten c lefts c.facts c.questions) in
     let next = poly_of n (slot_in c.slots (m.base + (m.done + 1))) in
     let done : m.done + 1 ≡ suc m.done = omega arith in
     let untouched : Untouched new (passed next (marks_from n c.slots m)) = λ h. ap (λ d. poly_of n (slot_in c.slots (m.base + d))) done in
-    subst (λ x. Advances run n (memory_of n trees c) (stack.Facing (marks_from n c.slots m) k) new (stack.Facing x k) 0 nothing_more) (sym p.marks)
-    (stacks_mirror.passes_zero run n (memory_of n trees c) new (marks_from n c.slots m) k sound
-    (agree n trees c lefts c.facts c.questions m k p.kept (λ i h. refl) (λ i h. refl)) looks ahead z p.written next untouched)
+    subst (λ x. Advances run n (memory_of n trees c) (stack.Facing (marks_from n c.slots m) f.pending) new x 0 nothing_more) (ap₂ stack.Facing (sym p.marks) (sym q))
+    (stacks_mirror.passes_zero run n (memory_of n trees c) new (marks_from n c.slots m) f.pending sound
+    (agree n trees c lefts c.facts c.questions m f.pending p.kept (λ i h. refl) (λ i h. refl)) looks ahead z p.written next untouched)
 
-pub moves-known : (n : ℕ) (c : Cells) (m : Marks) (k : ℕ) (s : Sign) (lefts : List ℤ) (r : Marks) → 0 < m.looks → 0 < m.ahead → is_zero (current_poly n c.slots m) ≡ false →
-    Is s ≡ current_known n c.slots c.facts m → Settles n c m s lefts r → Moves n c (facing_at m k) (rewritten c lefts c.facts c.questions) (facing_at r k) 0
-moves-known n c m k s lefts r looks ahead z t p trees run sound =
+pub moves-known : (n : ℕ) (c : Cells) (f : Facing) (s : Sign) (lefts : List ℤ) (g : Facing) → 0 < f.marks.looks → 0 < f.marks.ahead → is_zero (current_poly n c.slots f.marks) ≡ false →
+    Is s ≡ current_known n c.slots c.facts f.marks → Settles n c f.marks s lefts g.marks → g.pending ≡ f.pending → Moves n c f (rewritten c lefts c.facts c.questions) g 0
+moves-known n c f s lefts g looks ahead z t p q trees run sound =
+    let m = f.marks in
     let new = memory_of n trees (rewritten c lefts c.facts c.questions) in
-    subst (λ x. Advances run n (memory_of n trees c) (stack.Facing (marks_from n c.slots m) k) new (stack.Facing x k) 0 nothing_more) (sym p.marks)
-    (stacks_mirror.passes_known run n (memory_of n trees c) new (marks_from n c.slots m) k sound
-    (agree n trees c lefts c.facts c.questions m k p.kept (λ i h. refl) (λ i h. refl)) looks ahead z s (sym t) p.next (p.written trees c.facts c.questions))
-
-pub explored : (n : ℕ) (c : Cells) (m : Marks) (k : ℕ) (b : Branch) (s : Sign) (lefts facts questions : List ℤ) (d : Cells) (one r : Marks) →
-    Written question_in k (record { marks = m; branch = b }) c.questions questions →
-    Written fact_in m.facts (record { slot = m.base + m.done; count = m.count; sign = s }) c.facts facts → one ≡ one_fact m →
-    Settles n (rewritten c c.lefts facts questions) one s lefts r → d ≡ rewritten c lefts facts questions → length lefts ≡ length c.lefts → Explores n c m k b s d r
-explored n c m k b s lefts facts questions d one r q f o p e l =
-    subst (λ d. Explores n c m k b s d r) (sym e)
-    (record { question = q; fact = f; settles = subst (λ m. Settles n (rewritten c c.lefts facts questions) m s lefts r) o p; rest = refl; long = l })
-
-pub explored_slots : (n : ℕ) (c : Cells) (m : Marks) (k : ℕ) (b : Branch) (s : Sign) (d : Cells) (r : Marks) → Explores n c m k b s d r → d.slots ≡ c.slots
-explored_slots n c m k b s d r x = ap (λ e. e.slots) x.rest
-
-pub explored_long : (n : ℕ) (c : Cells) (m : Marks) (k : ℕ) (b : Branch) (s : Sign) (d : Cells) (r : Marks) → Explores n c m k b s d r → SameLengths c d
-explored_long n c m k b s d r x = record { lefts = x.long; facts = x.fact.long; questions = x.question.long }
+    subst (λ x. Advances run n (memory_of n trees c) (stack.Facing (marks_from n c.slots m) f.pending) new x 0 nothing_more) (ap₂ stack.Facing (sym p.marks) (sym q))
+    (stacks_mirror.passes_known run n (memory_of n trees c) new (marks_from n c.slots m) f.pending sound
+    (agree n trees c lefts c.facts c.questions m f.pending p.kept (λ i h. refl) (λ i h. refl)) looks ahead z s (sym t) p.next (p.written trees c.facts c.questions))
 
 one-fact : (n : ℕ) (slots : List ℤ) (m : Marks) → marks_from n slots (one_fact m) ≡ with_one_fact (marks_from n slots m)
 one-fact n slots m =
     let fact : m.facts + 1 ≡ suc m.facts = omega arith in
     λ i. stack.Marked m.looks m.base m.done m.ahead (current_poly n slots m) (fact i) m.frames
 
-pub moves-asked : (n : ℕ) (c : Cells) (m : Marks) (k : ℕ) (d : Cells) (r : Marks) → 0 < m.looks → 0 < m.ahead → is_zero (current_poly n c.slots m) ≡ false →
-    current_known n c.slots c.facts m ≡ Unknown → Explores n c m k Above Pos d r → Moves n c (facing_at m k) d (facing_at r (k + 1)) 1
-moves-asked n c m k d r looks ahead z t x =
-    subst (λ e. Moves n c (facing_at m k) e (facing_at r (k + 1)) 1) (sym x.rest) (λ trees run sound.
+pub moves-asked : (n : ℕ) (c : Cells) (f : Facing) (d : Cells) (g : Facing) → 0 < f.marks.looks → 0 < f.marks.ahead → is_zero (current_poly n c.slots f.marks) ≡ false →
+    current_known n c.slots c.facts f.marks ≡ Unknown → Explores n c f.marks (f.pending + 1 - 1) Above Pos d g.marks → g.pending ≡ f.pending + 1 → Moves n c f d g 1
+moves-asked n c f d g looks ahead z t asked q =
+    let m = f.marks in
+    let k = f.pending in
+    let same : k + 1 - 1 ≡ k = omega arith in
+    let x : Explores n c m k Above Pos d g.marks = subst (λ k. Explores n c m k Above Pos d g.marks) same asked in
+    subst (λ e. Moves n c f e g 1) (sym x.rest) (λ trees run sound.
     let lefts = d.lefts in
     let facts = d.facts in
     let questions = d.questions in
     let p = x.settles in
     let new = memory_of n trees (rewritten c lefts facts questions) in
     let old = marks_from n c.slots m in
-    let more : suc k ≡ k + 1 = omega arith in
-    let marks : signed p.next Pos (with_one_fact old) ≡ marks_from n c.slots r = ap (signed p.next Pos) (sym (one-fact n c.slots m)) ∙ sym p.marks in
-    let both : stack.Facing (signed p.next Pos (with_one_fact old)) (suc k) ≡ stack.Facing (marks_from n c.slots r) (k + 1) = ap₂ stack.Facing marks more in
+    let more : suc k ≡ g.pending = omega arith in
+    let marks : signed p.next Pos (with_one_fact old) ≡ marks_from n c.slots g.marks = ap (signed p.next Pos) (sym (one-fact n c.slots m)) ∙ sym p.marks in
+    let both : stack.Facing (signed p.next Pos (with_one_fact old)) (suc k) ≡ stack.Facing (marks_from n c.slots g.marks) g.pending = ap₂ stack.Facing marks more in
     subst (λ y. Advances run n (memory_of n trees c) (stack.Facing old k) new y 1 nothing_more) both
     (stacks_mirror.asks run n (memory_of n trees c) new old k sound (agree n trees c lefts facts questions m k p.kept x.fact.under x.question.under) looks ahead z t
     (ap (question_from n trees c.slots) x.question.there) (ap (fact_from n c.slots) x.fact.there) p.next (p.written trees facts questions)))
 
 -- the last question's branch above is finished
-pub returns_above : (n : ℕ) (c : Cells) (t : Tree) (q : Question) (k : ℕ) (d : Cells) (r : Marks) → q ≡ question_in c.questions k → q.branch ≡ Above →
+returns_above : (n : ℕ) (c : Cells) (t : Tree) (q : Question) (k : ℕ) (d : Cells) (r : Marks) → q ≡ question_in c.questions k → q.branch ≡ Above →
     Explores n c q.marks k (At t) Zero d r → (trees : Tree → sign.Tree) (run : Run) → Sound (memory_of n trees c) (stack.Holding (trees t) (suc k)) →
     Advances run n (memory_of n trees c) (stack.Holding (trees t) (suc k)) (memory_of n trees d) (stack.Facing (marks_from n d.slots r) (suc k)) 0 nothing_more
 returns_above n c t q k d r e b x trees run sound =
@@ -117,7 +104,7 @@ returns_above n c t q k d r e b x trees run sound =
     (agree n trees c d.lefts d.facts d.questions m k p.kept x.fact.under x.question.under)
     (ap (question_from n trees c.slots) x.question.there) (ap (fact_from n c.slots) x.fact.there)))
 
-pub returns_at : (n : ℕ) (c : Cells) (t above : Tree) (q : Question) (k : ℕ) (d : Cells) (r : Marks) → q ≡ question_in c.questions k → q.branch ≡ At above →
+returns_at : (n : ℕ) (c : Cells) (t above : Tree) (q : Question) (k : ℕ) (d : Cells) (r : Marks) → q ≡ question_in c.questions k → q.branch ≡ At above →
     Explores n c q.marks k (Below t above) Neg d r → (trees : Tree → sign.Tree) (run : Run) → Sound (memory_of n trees c) (stack.Holding (trees t) (suc k)) →
     Advances run n (memory_of n trees c) (stack.Holding (trees t) (suc k)) (memory_of n trees d) (stack.Facing (marks_from n d.slots r) (suc k)) 0 nothing_more
 returns_at n c t above q k d r e b x trees run sound =
@@ -135,23 +122,21 @@ returns_at n c t above q k d r e b x trees run sound =
     (ap (question_from n trees c.slots) x.question.there) (ap (fact_from n c.slots) x.fact.there) p.next (p.written trees d.facts d.questions)))
 
 -- the same by how many questions are open
-pub returned_above : (n : ℕ) (c : Cells) (t : Tree) (q : Question) (pending : ℕ) (d : Cells) (r : Marks) → 0 < pending → q ≡ question_in c.questions (pending - 1) → q.branch ≡ Above →
-    Explores n c q.marks (pending - 1) (At t) Zero d r → (trees : Tree → sign.Tree) (run : Run) → Sound (memory_of n trees c) (stack.Holding (trees t) pending) →
-    Advances run n (memory_of n trees c) (stack.Holding (trees t) pending) (memory_of n trees d) (stack.Facing (marks_from n d.slots r) pending) 0 nothing_more
-returned_above n c t q pending d r l e b x trees run =
-    let j : suc (pending - 1) ≡ pending = omega arith in
-    subst (λ k. Sound (memory_of n trees c) (stack.Holding (trees t) k) →
-    Advances run n (memory_of n trees c) (stack.Holding (trees t) k) (memory_of n trees d) (stack.Facing (marks_from n d.slots r) k) 0 nothing_more) j
-    (returns_above n c t q (pending - 1) d r e b x trees run)
+module _ (n : ℕ) (c : Cells) (t : Tree) (q : Question) (pending : ℕ) (d : Cells) (g : Facing) (some : 0 < pending) (is : q ≡ question_in c.questions (pending - 1)) (same : g.pending ≡ pending) where
+  abbrev Goes : ℕ → ℕ → Type 0
+  Goes k j = (trees : Tree → sign.Tree) (run : Run) → Sound (memory_of n trees c) (stack.Holding (trees t) k) →
+      Advances run n (memory_of n trees c) (stack.Holding (trees t) k) (memory_of n trees d) (stack.Facing (marks_from n d.slots g.marks) j) 0 nothing_more
 
-pub returned_at : (n : ℕ) (c : Cells) (t above : Tree) (q : Question) (pending : ℕ) (d : Cells) (r : Marks) → 0 < pending → q ≡ question_in c.questions (pending - 1) → q.branch ≡ At above →
-    Explores n c q.marks (pending - 1) (Below t above) Neg d r → (trees : Tree → sign.Tree) (run : Run) → Sound (memory_of n trees c) (stack.Holding (trees t) pending) →
-    Advances run n (memory_of n trees c) (stack.Holding (trees t) pending) (memory_of n trees d) (stack.Facing (marks_from n d.slots r) pending) 0 nothing_more
-returned_at n c t above q pending d r l e b x trees run =
-    let j : suc (pending - 1) ≡ pending = omega arith in
-    subst (λ k. Sound (memory_of n trees c) (stack.Holding (trees t) k) →
-    Advances run n (memory_of n trees c) (stack.Holding (trees t) k) (memory_of n trees d) (stack.Facing (marks_from n d.slots r) k) 0 nothing_more) j
-    (returns_at n c t above q (pending - 1) d r e b x trees run)
+  moved : Goes (suc (pending - 1)) (suc (pending - 1)) → Goes pending g.pending
+  moved h =
+      let k : suc (pending - 1) ≡ pending = omega arith in
+      subst (Goes pending) (sym same) (subst (λ k. Goes k k) k h)
+
+  pub returned_above : q.branch ≡ Above → Explores n c q.marks (pending - 1) (At t) Zero d g.marks → Goes pending g.pending
+  returned_above b x = moved (returns_above n c t q (pending - 1) d g.marks is b x)
+
+  pub returned_at : (above : Tree) → q.branch ≡ At above → Explores n c q.marks (pending - 1) (Below t above) Neg d g.marks → Goes pending g.pending
+  returned_at above b x = moved (returns_at n c t above q (pending - 1) d g.marks is b x)
 
 pub finishes : (n : ℕ) (c : Cells) (t : Tree) (pending : ℕ) → 0 < pending → Finishes n c t pending
 finishes n c t pending l at above b trees run =
@@ -163,9 +148,24 @@ finishes n c t pending l at above b trees run =
     (λ sound. stacks_mirror.returns_below run n (memory_of n trees c) (trees t) (trees at) (trees above) (marks_from n c.slots m) (pending - 1) sound
     (ap (λ b. stack.Pending (marks_from n c.slots m) (exploring trees b)) b))
 
-pub begins : (n : ℕ) (c : Cells) (size : ℕ) (count : ℕ) → count ≡ length (slot_in c.slots 0) →
-    Begins n c size (facing_at (record { looks = 63; base = 0; done = 0; ahead = size; count = count; facts = 0; frames = 0 }) 0)
-begins n c size count e trees ps first =
+abbrev first_marks : (ahead count : ℕ) → Marks
+first_marks ahead count = record { looks = 63; base = 0; done = 0; ahead = ahead; count = count; facts = 0; frames = 0 }
+
+length-forth : {A : Type 0} (f : ℕ → A) (i k : ℕ) → length (forth f i k) ≡ k
+unfolding forth
+length-forth f i zero = refl
+length-forth f i (suc k) = ap suc (length-forth f (suc i) k)
+
+-- at most 64 polynomials are begun with
+pub begins : (n : ℕ) (c : Cells) (size count ahead : ℕ) → count ≡ length (slot_in c.slots 0) → ahead ≡ min size 64 →
+    (trees : Tree → sign.Tree) (ps : List Poly) → polys_forth (memory_of n trees c) 0 0 size ≡ take 64 ps →
+    let s = stack.Facing (marks_from n c.slots (first_marks ahead count)) 0 in (state_of (memory_of n trees c) s ≡ start 40 ps) × Sound (memory_of n trees c) s
+begins n c size count ahead e few trees ps first =
+    let mem = memory_of n trees c in
     let slot = slot_in c.slots 0 in
+    let p = poly_of n (take count slot) in
     let whole : take count slot ≡ slot = take_all count slot (omega arith) in
-    stacks_mirror.begins (memory_of n trees c) ps (poly_of n (take count slot)) size first (λ h. ap (poly_of n) whole)
+    let long : size ≡ length (take 64 ps) = sym (length-forth (λ j. mem.poly_at (0 + j)) 0 size) ∙ ap length first in
+    let same : size ≡ ahead = omega (arith, length-take 64 ps) in
+    subst (λ k. let f = stack.Facing (stack.Marked 63 0 0 k p 0 0) 0 in (state_of mem f ≡ start 40 ps) × Sound mem f) same
+    (stacks_mirror.begins mem ps p size first (λ h. ap (poly_of n) whole))

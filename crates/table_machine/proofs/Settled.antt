@@ -13,7 +13,7 @@ use Rattle.packed.proofs.Leading.{take-monomials}
 use Rattle.storage.proofs.Denoting.{denoting_laws}
 use Rattle.sign_table.specs.Leadings as table
 use Rattle.sign_table.specs.Leadings.{left_of}
-use Rattle.machine.specs.Stacks.{Marked, less_one, passed}
+use Rattle.machine.specs.Stacks.{Marked, less_one}
 use Rattle.stacks.specs.declared.marks.Left.{Left}
 use Rattle.stacks.specs.declared.marks.Marks.{Marks}
 use Rattle.stacks.specs.Written.{Written}
@@ -23,11 +23,10 @@ use Rattle.stacks.specs.Spelt.{spelt}
 use Rattle.stacks.specs.Memories.{Cells, AllHold, poly_of, front_poly, left_from, left_with, marks_from}
 use Rattle.stacks.proofs.Holding.{slot_laws}
 use Rattle.table_machine.specs.Told.{front_terms}
-use Rattle.table_machine.specs.Settling.{Settles, next_marks, shorter_marks, left_count, is_zero_sign}
-use Rattle.table_machine.specs.Moving.{PassesZero}
+use Rattle.table_machine.specs.Settling.{Settles, next_marks, shorter_marks, left_count}
 use Rattle.table_machine.proofs.Telling.{front-denotes}
 
-pub less_one-is : (k : ℕ) → k - 1 ≡ less_one k
+less_one-is : (k : ℕ) → k - 1 ≡ less_one k
 less_one-is zero = omega arith
 less_one-is (suc k) = omega arith
 
@@ -49,16 +48,16 @@ shorter_terms n slots i count =
     let l : k ≤ count = omega arith in
     take-monomials (slot_in slots i) k ∙ sym (take-take k count all l) ∙ ap (take k) (sym e) ∙ take-length j ts
 
-pub shorter-poly : (n : ℕ) (slots : List ℤ) (i count : ℕ) → AllHold n slots →
+shorter-poly : (n : ℕ) (slots : List ℤ) (i count : ℕ) → AllHold n slots →
     front_poly n slots i (length (prefix_terms n (front_terms slots i count))) ≡ without_leading (front_poly n slots i count)
 shorter-poly n slots i count h =
     ap (spelt (suc n)) (shorter_terms n slots i count) ∙
     slot_laws.spelt_is (suc n) (prefix_terms n (front_terms slots i count)) (without_leading (front_poly n slots i count))
     (denoting_laws.without_leading_denotes n (front_terms slots i count) (front_poly n slots i count) (front-denotes n slots i count h))
 
-pub settles_zero : (n : ℕ) (c : Cells) (m : Marks) (s : Sign) (r : Marks) → AllHold n c.slots → is_zero_sign s ≡ true → r ≡ shorter_marks n c.slots m → Settles n c m s c.lefts r
-settles_zero n c m Neg r h z e = let y : ◌≡◌ {A = ℕ} 0 1 = cc in absurd (omega arith)
-settles_zero n c m Pos r h z e = let y : ◌≡◌ {A = ℕ} 0 1 = cc in absurd (omega arith)
+pub settles_zero : (n : ℕ) (c : Cells) (m : Marks) (s : Sign) (r : Marks) → AllHold n c.slots → s ≡ Zero → r ≡ shorter_marks n c.slots m → Settles n c m s c.lefts r
+settles_zero n c m Neg r h z e = absurd (cc)
+settles_zero n c m Pos r h z e = absurd (cc)
 settles_zero n c m Zero r h z e =
     let looks = less_one-is m.looks in
     let current = shorter-poly n c.slots (m.base + m.done) m.count h in
@@ -85,7 +84,7 @@ left_settled n slots i count s h =
     by zero false e = let z = no_terms n slots i in cc
     by (suc k) false e = refl
 
-pub settles-passed : (n : ℕ) (c : Cells) (m : Marks) (s : Sign) (left : Left) (lefts : List ℤ) (r : Marks) → AllHold n c.slots → is_zero_sign s ≡ false →
+pub settles-passed : (n : ℕ) (c : Cells) (m : Marks) (s : Sign) (left : Left) (lefts : List ℤ) (r : Marks) → AllHold n c.slots → (s ≡ Zero → ⊥) →
     left ≡ record { count = left_count n c.slots m; sign = s } → Written left_in (m.base + m.done) left c.lefts lefts → r ≡ next_marks c.slots m → Settles n c m s lefts r
 settles-passed n c m s left lefts r h z e w q = by s z e
   where
@@ -107,23 +106,7 @@ settles-passed n c m s left lefts r h z e w q = by s z e
         left_from n c.slots (m.base + m.done) (left_in lefts (m.base + m.done)) ≡ left_of (front_poly n c.slots (m.base + m.done) m.count) s
     here s e = ap (left_from n c.slots (m.base + m.done)) (w.there ∙ e) ∙ left_settled n c.slots (m.base + m.done) m.count s h
 
-    by : (s : Sign) → is_zero_sign s ≡ false → left ≡ record { count = left_count n c.slots m; sign = s } → Settles n c m s lefts r
+    by : (s : Sign) → (s ≡ Zero → ⊥) → left ≡ record { count = left_count n c.slots m; sign = s } → Settles n c m s lefts r
     by Neg z e = record { next = poly_of n (slot_in c.slots (m.base + suc m.done)); marks = marks; written = λ trees facts questions. (here Neg e, λ l. refl); kept = w.under }
     by Pos z e = record { next = poly_of n (slot_in c.slots (m.base + suc m.done)); marks = marks; written = λ trees facts questions. (here Pos e, λ l. refl); kept = w.under }
-    by Zero z e = let y : ◌≡◌ {A = ℕ} 0 1 = cc in absurd (omega arith)
-
--- the next polynomial, whole
-pub next_marks_lem : (n : ℕ) (slots : List ℤ) (m r : Marks) → r ≡ next_marks slots m → marks_from n slots r ≡ passed (poly_of n (slot_in slots (m.base + (m.done + 1)))) (marks_from n slots m)
-next_marks_lem n slots m r q =
-    let looks = less_one-is m.looks in
-    let ahead = less_one-is m.ahead in
-    let done : m.done + 1 ≡ suc m.done = omega arith in
-    let slot = slot_in slots (m.base + (m.done + 1)) in
-    let whole : take (length slot) slot ≡ slot = take_all (length slot) slot (omega arith) in
-    let current : front_poly n slots (m.base + (m.done + 1)) (length slot) ≡ poly_of n slot = ap (poly_of n) whole in
-    ap (marks_from n slots) q ∙ (λ i. Marked (looks i) m.base (done i) (ahead i) (current i) m.facts m.frames)
-
-pub passes_zero : (n : ℕ) (c : Cells) (m : Marks) (lefts : List ℤ) (r : Marks) → Written left_in (m.base + m.done) (record { count = 0; sign = Zero }) c.lefts lefts →
-    r ≡ next_marks c.slots m → PassesZero n c m lefts r
-passes_zero n c m lefts r w q =
-    record { marks = next_marks_lem n c.slots m r q; written = ap (left_from n c.slots (m.base + m.done)) w.there; kept = w.under }
+    by Zero z e = absurd (z refl)

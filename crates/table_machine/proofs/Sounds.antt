@@ -7,18 +7,18 @@ use Rattle.question.specs.declared.tree.Tree.{Tree}
 use Rattle.stacks.specs.declared.marks.Marks.{Marks}
 use Rattle.stacks.specs.Values.{question_in}
 use Rattle.stacks.specs.Memories.{Cells, marks_from, memory_of}
-use Rattle.table_machine.specs.declared.arrays.Facing.{Facing}
-use Rattle.table_machine.specs.Settling.{Fitting}
-use Rattle.table_machine.specs.Moving.{facing, Room, Askable}
+use Rattle.table_machine.specs.Fitting.{Fitting}
+use Rattle.table_machine.specs.Moving.{Room, Askable}
 use Rattle.table_machine.specs.SoundLaws.{Enough, SoundLaws}
 
 fitting : (n : ℕ) (trees : Tree → sign.Tree) (c : Cells) (m : Marks) (k : ℕ) → Fits (memory_of n trees c) (marks_from n c.slots m) k → Fitting m
 fitting n trees c m k f = record { looks_bound = f.looks_bound; size_bound = f.size_bound; base_bound = f.base_bound; depth_bound = f.depth_bound }
 
-facing_room : (n : ℕ) (trees : Tree → sign.Tree) (c : Cells) (f : Facing) → Enough c → f.pending < 3500 → Sound (memory_of n trees c) (facing n c.slots f) → Room c f
-facing_room n trees c f e l s =
-    let count : f.marks.facts ≡ f.marks.frames + f.pending = s.0.facts_count in
-    let deep : f.marks.frames ≤ 39 = s.0.depth_bound in
+facing_room : (n : ℕ) (trees : Tree → sign.Tree) (c : Cells) (m : Marks) (pending : ℕ) → Enough c → pending < 3500 →
+    Sound (memory_of n trees c) (stack.Facing (marks_from n c.slots m) pending) → Room c m pending
+facing_room n trees c m pending e l s =
+    let count : m.facts ≡ m.frames + pending = s.0.facts_count in
+    let deep : m.frames ≤ 39 = s.0.depth_bound in
     record { lefts = e.lefts; facts = omega (arith, e.facts); questions = omega (arith, e.questions); few = omega arith; fewer = omega arith }
 
 holding_asks : (n : ℕ) (trees : Tree → sign.Tree) (c : Cells) (t : sign.Tree) (k : ℕ) → Enough c → k < 3500 →
@@ -33,7 +33,7 @@ holding_asks n trees c t k e l s =
 pub sound_laws : SoundLaws
 sound_laws =
     record {
-      facing_fits = λ n trees c f s. fitting n trees c f.marks f.pending s.0;
+      facing_fits = λ n trees c m pending s. fitting n trees c m pending s.0;
       facing_room = facing_room;
       holding_asks = λ n trees c t pending e l h s.
           let j : pending ≡ suc (pending - 1) = omega arith in

@@ -1,5 +1,5 @@
 -- What facts tell, by the monomials of what they are about. Assumes nothing.
-use Rattle.std.proofs.Common.{◌≡◌, ℕ, zero, suc, ◌-◌, ◌<◌, Bool, true, false, List, [], ◌∷◌, length, ℤ, is_some, Some, None, Option, sym, refl, ap, ◌∙◌, subst, ap₂, arith}
+use Rattle.std.proofs.Common.{◌≡◌, ℕ, zero, suc, ◌-◌, ◌<◌, Bool, true, false, List, [], ◌∷◌, length, ℤ, Option, sym, refl, ap, ◌∙◌, subst, ap₂, arith}
 use Rattle.field.specs.declared.sign.Sign.{Sign}
 use Rattle.field.specs.declared.sign.Sign.TheVariants.{Zero}
 use Rattle.field.specs.Sign.{flip, sign_of}
@@ -55,14 +55,6 @@ one-fact n slots i count k f h =
     ap₂ (λ a b. or_else (told_by a b (f k).sign) rest) (sym (denoting_laws.same_is n (leading_front n slots i count) (leading_front n slots (f k).slot (f k).count) p q dp dq))
     (sym (denoting_laws.same_negative_is n (leading_front n slots i count) (leading_front n slots (f k).slot (f k).count) p q dp dq))
 
-some_is : (o : Option Sign) (k : Known) → is_some o ≡ true → known_of o ≡ or_else (known_of o) k
-some_is (Some s) k e = refl
-some_is None k e = cc
-
-none_is : (o : Option Sign) (k : Known) → is_some o ≡ false → or_else (known_of o) k ≡ k
-none_is (Some s) k e = cc
-none_is None k e = refl
-
 -- what a fact told, and what those before it tell
 pub fact-told : (n : ℕ) (slots : List ℤ) (i count len : ℕ) (f : ℕ → Fact) (g : Fact) (ts : List Monomial) (o : Option Sign) → AllHold n slots → 0 < len →
     g ≡ f (len - 1) → ts ≡ leading_front n slots i count →
@@ -76,12 +68,6 @@ fact-told n slots i count len f g ts o h l e q t =
     let rest = among n p (back (λ j. fact_from n slots (f j)) (len - 1)) in
     let told : Fact → List Monomial → Known = λ v ts. told_by (same_terms ts (leading_front n slots v.slot v.count)) (same_terms (neg_terms ts) (leading_front n slots v.slot v.count)) v.sign in
     ap (λ j. among n p (back (λ j. fact_from n slots (f j)) j)) m ∙ one-fact n slots i count (len - 1) f h ∙ ap₂ (λ v us. or_else (told v us) rest) (sym e) (sym q) ∙ ap (λ z. or_else z rest) (sym t)
-
-pub fact_found : (o : Option Sign) (a b : Known) → is_some o ≡ true → a ≡ or_else (known_of o) b → known_of o ≡ a
-fact_found o a b s e = some_is o b s ∙ sym e
-
-pub fact-passed : (o : Option Sign) (a b : Known) → is_some o ≡ false → a ≡ or_else (known_of o) b → b ≡ a
-fact-passed o a b s e = sym (none_is o b s) ∙ sym e
 
 pub no_facts : (n : ℕ) (p : Poly) (f : ℕ → table.Fact) → Unknown ≡ among n p (back f 0)
 unfolding among back

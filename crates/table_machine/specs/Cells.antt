@@ -1,10 +1,10 @@
 -- The numbers of the machine's arrays. Assumes nothing.
 use Rattle.std.specs.Prelude.{List, ℤ}
 use Rattle.stacks.specs.Memories.{Cells}
-use Rattle.table_machine.specs.declared.arrays.Arrays.{Arrays}
+use Rattle.table_machine.specs.declared.arrays.Machine.{Machine}
 
-abbrev pub cells_of : Arrays → Cells
-cells_of a = record { slots = a.slots.now; lefts = a.lefts.now; facts = a.facts.now; frames = a.frames.now; questions = a.questions.now }
+abbrev pub cells_of : Machine → Cells
+cells_of m = record { slots = m.slots.now; lefts = m.lefts.now; facts = m.facts.now; frames = m.frames.now; questions = m.questions.now }
 
 -- the slots and the frames stay
 abbrev pub rewritten : Cells → (lefts facts questions : List ℤ) → Cells

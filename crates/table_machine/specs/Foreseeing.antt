@@ -8,8 +8,8 @@ use Rattle.machine.specs.Theorems.{Advances, nothing_more}
 use Rattle.question.specs.declared.tree.Tree.{Tree}
 use Rattle.stacks.specs.declared.marks.Marks.{Marks}
 use Rattle.stacks.specs.Memories.{Cells, marks_from, memory_of}
-use Rattle.table_machine.specs.declared.arrays.Outlook.{Outlook}
-use Rattle.table_machine.specs.declared.arrays.Outlook.TheVariants.{Look, GiveUp, Divide}
+use Rattle.table_machine.specs.declared.outlook.Outlook.{Outlook}
+use Rattle.table_machine.specs.declared.outlook.Outlook.TheVariants.{Look, GiveUp, Divide}
 use Rattle.table_machine.specs.Reals.{FoundHighest}
 
 -- the branch is given up, with nothing written

@@ -20,9 +20,10 @@ use Rattle.stacks.specs.Written.{Written}
 use Rattle.stacks.specs.Values.{left_in, fact_in, question_in}
 use Rattle.stacks.specs.Memories.{Cells, front_poly, left_from, fact_from, marks_from, memory_of, poly_of}
 use Rattle.stacks.specs.Slots.{slot_in}
-use Rattle.table_machine.specs.declared.arrays.Facing.{Facing}
+use Rattle.table_machine.specs.declared.facing.Facing.{Facing}
 use Rattle.table_machine.specs.Cells.{rewritten}
-use Rattle.table_machine.specs.Settling.{Fitting, Settles}
+use Rattle.table_machine.specs.Fitting.{Fitting}
+use Rattle.table_machine.specs.Settling.{Settles}
 
 -- the current polynomial
 abbrev pub current_poly : ℕ → List ℤ → Marks → Poly
@@ -53,12 +54,12 @@ pub record PassesZero (n : ℕ) (c : Cells) (m : Marks) (lefts : List ℤ) (r : 
   pub kept : (i : ℕ) → i < m.base + m.done → left_in lefts i ≡ left_in c.lefts i
 
 -- there is room for one more fact and one more question
-pub record Room (c : Cells) (f : Facing) : Type 0 where
+pub record Room (c : Cells) (m : Marks) (pending : ℕ) : Type 0 where
   pub lefts : 2 * 2521 ≤ length c.lefts
-  pub facts : 3 * f.marks.facts + 3 ≤ length c.facts
-  pub questions : 10 * f.pending + 10 ≤ length c.questions
-  pub few : f.marks.facts < 60000
-  pub fewer : f.pending < 60000
+  pub facts : 3 * m.facts + 3 ≤ length c.facts
+  pub questions : 10 * pending + 10 ≤ length c.questions
+  pub few : m.facts < 60000
+  pub fewer : pending < 60000
 
 -- no array has another length
 pub record SameLengths (c d : Cells) : Type 0 where

@@ -5,7 +5,7 @@ use Rattle.sign_table.specs.Leadings.{Left, reals}
 use Rattle.sign_table.specs.Table.{poly_of, highest, none_left}
 use Rattle.machine.specs.Machine.{highest_place}
 use Rattle.machine.specs.Stacks.{forth}
-use Rattle.table_machine.specs.declared.arrays.Top.{Top}
+use Rattle.table_machine.specs.declared.outlook.Top.{Top}
 use Rattle.stacks.specs.declared.marks.Marks.{Marks}
 use Rattle.stacks.specs.Values.{left_in}
 use Rattle.stacks.specs.Memories.{Cells, left_from}
@@ -17,11 +17,6 @@ table_left n c m i = left_from n c.slots (m.base + i) (left_in c.lefts (m.base +
 -- the real ones from the i-th on
 abbrev pub reals_from : ℕ → Cells → Marks → ℕ → List Left
 reals_from n c m i = reals (forth (table_left n c m) i (m.done - i))
-
--- the first real one from a place on is at r, or there is none and r is the end
-pub record NextReal (c : Cells) (m : Marks) (from r : ℕ) : Type 0 where
-  pub same : (n : ℕ) → reals_from n c m r ≡ reals_from n c m from
-  pub real : r < m.done → 0 < (left_in c.lefts (m.base + r)).count
 
 -- the real polynomial of the highest degree so far: of the real ones before place i, `count` of them, it is at `place` among them and at `index` in the table
 pub record Highest (n : ℕ) (c : Cells) (m : Marks) (count i : ℕ) (t : Top) : Type 0 where
@@ -37,11 +32,21 @@ pub record Highest (n : ℕ) (c : Cells) (m : Marks) (count i : ℕ) (t : Top) :
   pub index_bound : t.index < m.done
   pub few : count ≤ i
 
+-- or none of those before place i is real
+abbrev pub HighestSoFar : ℕ → Cells → Marks → (count i : ℕ) → Option Top → Type 0
+HighestSoFar n c m count i None = (count ≡ 0) × (reals_from n c m i ≡ reals_from n c m 0)
+HighestSoFar n c m count i (Some t) = Highest n c m count i t
+
 -- what is left has this polynomial of the highest degree, where any is real
 abbrev pub FoundHighest : ℕ → Cells → Marks → Option Top → Type 0
 FoundHighest n c m None = reals_from n c m 0 ≡ []
 FoundHighest n c m (Some t) = (l : Left) × (ls : List Left) × (reals_from n c m 0 ≡ l ∷ ls) × (t.place ≡ highest_place l ls) × (slice_index_or (l ∷ ls) t.place none_left ≡ table_left n c m t.index) × (t.index < m.done)
 
-abbrev pub higher_of : ℕ → Cells → Marks → Top → (i count : ℕ) → Top
-higher_of n c m t i count =
-    cond (nat_lt t.degree (degree (poly_of (table_left n c m i)))) (record { index = i; place = count; degree = degree (poly_of (table_left n c m i)) }) t
+-- the i-th, which is real, as the highest; `count` real ones come before it
+abbrev pub top_here : ℕ → Cells → Marks → (i count : ℕ) → Top
+top_here n c m i count = record { index = i; place = count; degree = degree (poly_of (table_left n c m i)) }
+
+-- the higher of the highest so far and the i-th, the first if they are equal
+abbrev pub higher_of : ℕ → Cells → Marks → Option Top → (i count : ℕ) → Top
+higher_of n c m None i count = top_here n c m i count
+higher_of n c m (Some t) i count = cond (nat_lt t.degree (degree (poly_of (table_left n c m i)))) (top_here n c m i count) t

@@ -1,7 +1,6 @@
 -- How marks change when a polynomial is settled. Assumes nothing.
-use Rattle.std.specs.Prelude.{◌≡◌, ℕ, ◌+◌, ◌-◌, ◌*◌, ◌<◌, ◌≤◌, Bool, true, false, cond, List, length, ℤ, ◌==◌}
+use Rattle.std.specs.Prelude.{◌≡◌, ℕ, ◌+◌, ◌-◌, ◌<◌, cond, List, length, ℤ, ◌==◌}
 use Rattle.field.specs.declared.sign.Sign.{Sign}
-use Rattle.field.specs.declared.sign.Sign.TheVariants.{Neg, Zero, Pos}
 use Rattle.poly.specs.Poly.{Poly}
 use Rattle.terms.specs.LeadingTerms.{degree_terms, prefix_terms}
 use Rattle.sign_table.specs.Tree as sign
@@ -13,18 +12,6 @@ use Rattle.stacks.specs.Slots.{slot_in}
 use Rattle.stacks.specs.Memories.{Cells, marks_from, memory_of}
 use Rattle.table_machine.specs.Told.{front_terms}
 use Rattle.table_machine.specs.Cells.{rewritten}
-
-abbrev pub is_zero_sign : Sign → Bool
-is_zero_sign Neg = false
-is_zero_sign Zero = true
-is_zero_sign Pos = false
-
--- the bounds of marks
-pub record Fitting (m : Marks) : Type 0 where
-  pub looks_bound : m.done + m.looks ≤ 63
-  pub size_bound : m.done + m.ahead ≤ 64
-  pub base_bound : m.base ≤ 63 * m.frames
-  pub depth_bound : m.frames ≤ 39
 
 abbrev pub next_marks : List ℤ → Marks → Marks
 next_marks slots m = record

@@ -4,11 +4,11 @@ use Rattle.sign_table.specs.Tree as sign
 use Rattle.machine.specs.Stacks as stack
 use Rattle.machine.specs.Stacks.{Sound}
 use Rattle.question.specs.declared.tree.Tree.{Tree}
+use Rattle.stacks.specs.declared.marks.Marks.{Marks}
 use Rattle.stacks.specs.Values.{question_in}
-use Rattle.stacks.specs.Memories.{Cells, memory_of}
-use Rattle.table_machine.specs.declared.arrays.Facing.{Facing}
-use Rattle.table_machine.specs.Settling.{Fitting}
-use Rattle.table_machine.specs.Moving.{facing, Room, Askable}
+use Rattle.stacks.specs.Memories.{Cells, marks_from, memory_of}
+use Rattle.table_machine.specs.Fitting.{Fitting}
+use Rattle.table_machine.specs.Moving.{Room, Askable}
 
 -- room for all polynomials of 40 tables, one within the other, and 3,500 questions
 pub record Enough (c : Cells) : Type 0 where
@@ -19,7 +19,8 @@ pub record Enough (c : Cells) : Type 0 where
   pub questions : 10 * 3500 ≤ length c.questions
 
 pub record SoundLaws : Type 0 where
-  pub facing_fits : (n : ℕ) (trees : Tree → sign.Tree) (c : Cells) (f : Facing) → Sound (memory_of n trees c) (facing n c.slots f) → Fitting f.marks
-  pub facing_room : (n : ℕ) (trees : Tree → sign.Tree) (c : Cells) (f : Facing) → Enough c → f.pending < 3500 → Sound (memory_of n trees c) (facing n c.slots f) → Room c f
+  pub facing_fits : (n : ℕ) (trees : Tree → sign.Tree) (c : Cells) (m : Marks) (pending : ℕ) → Sound (memory_of n trees c) (stack.Facing (marks_from n c.slots m) pending) → Fitting m
+  pub facing_room : (n : ℕ) (trees : Tree → sign.Tree) (c : Cells) (m : Marks) (pending : ℕ) → Enough c → pending < 3500 →
+      Sound (memory_of n trees c) (stack.Facing (marks_from n c.slots m) pending) → Room c m pending
   pub holding_asks : (n : ℕ) (trees : Tree → sign.Tree) (c : Cells) (t : sign.Tree) (pending : ℕ) → Enough c → 0 < pending → pending ≤ 3500 →
       Sound (memory_of n trees c) (stack.Holding t pending) → Askable c (question_in c.questions (pending - 1)).marks

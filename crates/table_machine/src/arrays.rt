@@ -1,35 +1,24 @@
-// The machine's memory: five arrays over lent numbers.
+// The machine that makes the tree of a table: its memory, five arrays over lent numbers. Every slot holds a polynomial in one variable and `others` more.
+ghost use Rattle.std.specs.Prelude.{◌<◌};
+ghost use Rattle.stacks.specs.Memories.{AllHold};
+ghost use Rattle.table_machine.specs.OneProof.{AllHold-prop};
 
-use stacks::marks::Marks;
+use packed::variables::Variables;
 
+mod look;
+mod reads;
+mod reals;
+mod settle;
+
+// How long the arrays are is asked where they are written: what is only read may lie in arrays of any length.
 #[derive(Drop)]
-pub struct Arrays<'a> {
+pub struct Machine<'a> {
+    pub others: Variables,
     pub slots: &'a mut [i64],
     pub lefts: &'a mut [i64],
     pub facts: &'a mut [i64],
     pub frames: &'a mut [i64],
     pub questions: &'a mut [i64],
-}
-
-// The machine looks at a polynomial, with so many questions open.
-#[derive(Clone, Copy)]
-pub struct Facing {
-    pub marks: Marks,
-    pub pending: u16,
-}
-
-// A real polynomial of the table: its place there, that among the real ones, and its degree.
-#[derive(Clone, Copy)]
-pub struct Top {
-    pub index: u16,
-    pub place: u16,
-    pub degree: u64,
-}
-
-// What comes next in the run that counts.
-#[derive(Clone, Copy)]
-pub enum Outlook {
-    Look,
-    GiveUp,
-    Divide(Top),
+    pub ghost few: { others.count < 4 },
+    pub ghost hold: { AllHold others.count slots.now } by { AllHold-prop others.count slots.now },
 }

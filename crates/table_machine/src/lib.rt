@@ -3,9 +3,8 @@
 
 pub mod arrays;
 pub mod below;
-pub mod equality;
-pub mod facts;
+pub mod facing;
+pub mod front;
 pub mod laws;
-mod look;
-mod reals;
-pub mod settle;
+pub mod outlook;
+pub mod polynomials;

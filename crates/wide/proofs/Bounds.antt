@@ -1,14 +1,16 @@
 -- The sum of two lists fits where their coefficients do. Assumes nothing.
-use Rattle.std.proofs.Common.{◌≡◌, ℕ, zero, suc, ◌+◌, ◌^◌, ◌<◌, true, false, List, [], ◌∷◌, length, ℤ, pos, negsuc, ◌+ℤ◌, ◌*ℤ◌, refl, subst, le_of_suc-le-suc, arith, w64, SFits, to_z, of_z, eq-eqb, ne_eqb}
+use Rattle.std.proofs.Common.{◌≡◌, ℕ, zero, suc, ◌+◌, ◌^◌, ◌<◌, true, false, List, [], ◌∷◌, length, ℤ, pos, negsuc, ◌+ℤ◌, ◌*ℤ◌, sym, refl, ap, ◌∙◌, subst, ap₂, le_of_suc-le-suc, arith, w64, SFits, to_z, of_z, eq-eqb, ne_eqb}
 use lib.Signed.{mag}
 use Rattle.poly.specs.Poly.{is_zero_number}
 use Rattle.poly.specs.Modest.{magnitude}
 use Rattle.terms.specs.Monomial.{Monomial, monomial}
 use Rattle.terms.specs.Operations.{scale_terms}
 use Rattle.terms.proofs.Bounds.{length_scaled, size_sum}
-use Rattle.packed.specs.Terms.{term_at}
-use Rattle.packed.proofs.Places.{key_at, size_at, from_bits}
-use Rattle.wide.specs.Merging.{Addable}
+use Rattle.packed.specs.declared.term.Term.{Term}
+use Rattle.packed.specs.declared.view.View.{View}
+use Rattle.packed.specs.Terms.{terms_in, term_at, monomial_in}
+use Rattle.packed.proofs.Places.{key_at, size_at, from_bits, mag_small}
+use Rattle.wide.specs.Merging.{Addable, scaled_by}
 
 pub scaled_at : (d : ℕ) (x : ℤ) (ts : List Monomial) (i : ℕ) → i < length ts → term_at (scale_terms d x ts) i ≡ monomial (d + (term_at ts i).key) (x *ℤ (term_at ts i).times)
 unfolding scale_terms
@@ -16,9 +18,11 @@ scaled_at d x [] i h = absurd (omega arith)
 scaled_at d x (m ∷ ms) zero h = refl
 scaled_at d x (m ∷ ms) (suc i) h = scaled_at d x ms i (le_of_suc-le-suc h)
 
-pub mag_small : (z : ℤ) → magnitude z < 2 ^ 63 → mag z < 2 ^ 63
-mag_small (pos n) h = h
-mag_small (negsuc n) h = omega arith
+-- the product of two terms
+pub scaled_term : (by : Term) (polynomial : View) (i : ℕ) (term product : Term) → i < length (scaled_by by polynomial) → monomial_in term ≡ term_at (terms_in polynomial) i →
+    monomial_in product ≡ monomial (by.key + term.key) (by.coefficient *ℤ term.coefficient) → monomial_in product ≡ term_at (scaled_by by polynomial) i
+scaled_term by polynomial i term product h e f =
+    f ∙ ap₂ monomial (ap (λ m. by.key + m.key) e) (ap (λ m. by.coefficient *ℤ m.times) e) ∙ sym (scaled_at by.key by.coefficient (terms_in polynomial) i (omega (arith, length_scaled by.key by.coefficient (terms_in polynomial))))
 
 -- a number from its bits
 pub from_size : (z : ℤ) → magnitude z < 2 ^ 63 → to_z w64 (of_z w64 z) ≡ z

@@ -1,5 +1,4 @@
 -- Lemmas on lists of monomials in lent memory.
-pub mod Pairs
 pub mod Written
 pub mod Merging
 pub mod Bounds

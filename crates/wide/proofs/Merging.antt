@@ -1,16 +1,13 @@
 -- The next monomial of a sum. Assumes nothing.
-use Rattle.std.proofs.Common.{◌≡◌, ℕ, ◌+◌, ◌<◌, ◌≤◌, Bool, true, false, ltb, List, [], ◌∷◌, ◌++◌, length, drop, pos, ◌+ℤ◌, sym, refl, ap, ◌∙◌, ap₂, append_assoc, add-one, arith, length-append, drop_of_length-le, drop-cons, le-ltb, lt-ltb}
+use Rattle.std.proofs.Common.{◌≡◌, ℕ, ◌+◌, ◌<◌, ◌≤◌, Bool, true, false, ltb, List, [], ◌∷◌, ◌++◌, length, drop, ◌+ℤ◌, sym, refl, ap, ◌∙◌, ap₂, append_assoc, arith, length-append, drop_of_length-le, le-ltb, lt-ltb}
 use lib.Seq.{drop-length}
 use Rattle.poly.specs.Poly.{is_zero_number}
 use Rattle.terms.specs.Monomial.{Monomial, monomial}
 use Rattle.terms.specs.Operations.{put_term, merge_term, add_terms}
 use Rattle.terms.proofs.Tests.{on_test}
 use Rattle.packed.specs.Terms.{term_at}
+use Rattle.packed.proofs.Leading.{from_place}
 use Rattle.wide.specs.Merging.{Merged, Going}
-
--- both lists from a place on
-pub at_place : (ts : List Monomial) (i : ℕ) → i < length ts → drop i ts ≡ term_at ts i ∷ drop (i + 1) ts
-at_place ts i h = drop-cons ts i (monomial 0 (pos 0)) h ∙ ap (λ k. term_at ts i ∷ drop k ts) (sym (add-one i))
 
 merge_end : (a : Monomial) (p : List Monomial) → add_terms (a ∷ p) [] ≡ a ∷ add_terms p []
 unfolding add_terms merge_term
@@ -79,7 +76,7 @@ module _ (left right : List Monomial) (i j : ℕ) (out : List Monomial) (short :
             ap (λ w. w ++ add_terms (drop (i + 1) left) (drop j right)) e ∙ append_assoc out (term_at left i ∷ []) (add_terms (drop (i + 1) left) (drop j right)) ∙
             ap (λ w. out ++ w)
             (ap (λ w. term_at left i ∷ add_terms (drop (i + 1) left) w) gone ∙ sym (merge_end (term_at left i) (drop (i + 1) left)) ∙
-            sym (ap₂ add_terms (at_place left i h) gone));
+            sym (ap₂ add_terms (from_place left i h) gone));
         left_within = omega arith;
         right_within = omega arith;
         further = omega arith;
@@ -94,8 +91,8 @@ module _ (left right : List Monomial) (i j : ℕ) (out : List Monomial) (short :
         same =
             ap (λ w. w ++ add_terms (drop (i + 1) left) (drop j right)) e ∙ append_assoc out (term_at left i ∷ []) (add_terms (drop (i + 1) left) (drop j right)) ∙
             ap (λ w. out ++ w)
-            (ap (λ w. term_at left i ∷ add_terms (drop (i + 1) left) w) (at_place right j g) ∙
-            sym (merge_left (term_at left i) (term_at right j) (drop (i + 1) left) (drop (j + 1) right) l) ∙ sym (ap₂ add_terms (at_place left i h) (at_place right j g)));
+            (ap (λ w. term_at left i ∷ add_terms (drop (i + 1) left) w) (from_place right j g) ∙
+            sym (merge_left (term_at left i) (term_at right j) (drop (i + 1) left) (drop (j + 1) right) l) ∙ sym (ap₂ add_terms (from_place left i h) (from_place right j g)));
         left_within = omega arith;
         right_within = omega arith;
         further = omega arith;
@@ -110,8 +107,8 @@ module _ (left right : List Monomial) (i j : ℕ) (out : List Monomial) (short :
         same =
             ap (λ w. w ++ add_terms (drop i left) (drop (j + 1) right)) e ∙ append_assoc out (term_at right j ∷ []) (add_terms (drop i left) (drop (j + 1) right)) ∙
             ap (λ w. out ++ w)
-            (ap (λ w. term_at right j ∷ add_terms w (drop (j + 1) right)) (at_place left i h) ∙
-            sym (merge_right (term_at left i) (term_at right j) (drop (i + 1) left) (drop (j + 1) right) l) ∙ sym (ap₂ add_terms (at_place left i h) (at_place right j g)));
+            (ap (λ w. term_at right j ∷ add_terms w (drop (j + 1) right)) (from_place left i h) ∙
+            sym (merge_right (term_at left i) (term_at right j) (drop (i + 1) left) (drop (j + 1) right) l) ∙ sym (ap₂ add_terms (from_place left i h) (from_place right j g)));
         left_within = omega arith;
         right_within = omega arith;
         further = omega arith;
@@ -122,7 +119,7 @@ module _ (left right : List Monomial) (i j : ℕ) (out : List Monomial) (short :
       add_terms (drop i left) (drop j right) ≡
       put_term (monomial (term_at left i).key ((term_at left i).times +ℤ (term_at right j).times)) (add_terms (drop (i + 1) left) (drop (j + 1) right))
   both_places h g l =
-      ap₂ add_terms (at_place left i h) (at_place right j g) ∙ merge_both (term_at left i) (term_at right j) (drop (i + 1) left) (drop (j + 1) right) l
+      ap₂ add_terms (from_place left i h) (from_place right j g) ∙ merge_both (term_at left i) (term_at right j) (drop (i + 1) left) (drop (j + 1) right) l
 
   put_in_front : (m : Monomial) (ms : List Monomial) → put_term m ms ≡ put_term m [] ++ ms
   unfolding put_term

@@ -1,38 +1,22 @@
 -- A product is added up from the last monomial of the first factor to the first. Assumes nothing.
-use Rattle.std.proofs.Common.{◌≡◌, ℕ, suc, ◌+◌, ◌-◌, ◌*◌, ◌^◌, ◌<◌, ◌≤◌, Bool, true, false, List, [], ◌∷◌, length, drop, ℤ, pos, negsuc, ◌*ℤ◌, neg_ℤ, sym, refl, ap, ◌∙◌, subst, ap₂, mul-le-mul_right, one-mul, arith, length-drop, drop_of_length-le}
+use Rattle.std.proofs.Common.{◌≡◌, ℕ, suc, ◌+◌, ◌-◌, ◌*◌, ◌^◌, ◌<◌, ◌≤◌, List, [], ◌∷◌, length, drop, ℤ, pos, negsuc, ◌*ℤ◌, neg_ℤ, sym, refl, ap, ◌∙◌, subst, ap₂, mul-le-mul_right, one-mul, arith, length-drop, drop_of_length-le}
 use Rattle.poly.specs.Modest.{magnitude}
 use Rattle.terms.specs.Monomial.{Monomial, monomial}
-use Rattle.terms.specs.Operations.{add_terms, neg_terms, scale_terms, add_product}
+use Rattle.terms.specs.Operations.{add_terms, scale_terms, add_product}
 use Rattle.terms.specs.Sizes.{KeysBelow, SizesAtMost}
-use Rattle.terms.proofs.Bounds.{size_neg, length_scaled, length_product, keys_scaled, keys_product, sizes_scaled, sizes_modest_product}
+use Rattle.terms.proofs.Bounds.{length_scaled, length_product, keys_scaled, keys_product, sizes_scaled, sizes_modest_product}
 use Rattle.packed.specs.Terms.{term_at}
+use Rattle.packed.proofs.Leading.{from_place}
 use Rattle.packed.proofs.Places.{key_at, size_at}
-use Rattle.packed.proofs.Signed.{length-signed}
 use Rattle.packed.proofs.Lowered.{drop-keys, drop-sizes}
 use Rattle.wide.specs.Merging.{Addable}
 use Rattle.wide.specs.Multiplying.{OneProduct}
-use Rattle.packed.specs.Signed.{signed}
-use Rattle.wide.proofs.Merging.{at_place}
-
-keys-negated : (hi : ℕ) (ts : List Monomial) → KeysBelow hi ts → KeysBelow hi (neg_terms ts)
-unfolding neg_terms KeysBelow
-keys-negated hi [] k = tt
-keys-negated hi (m ∷ ms) k = (k.0, keys-negated hi ms k.1)
-
-sizes-negated : (b : ℕ) (ts : List Monomial) → SizesAtMost b ts → SizesAtMost b (neg_terms ts)
-unfolding neg_terms SizesAtMost
-sizes-negated b [] k = tt
-sizes-negated b (m ∷ ms) k = let h = k.0 in (omega (arith, size_neg m.times), sizes-negated b ms k.1)
 
 -- of at most 64 monomials, with keys below 2^19 and coefficients below 2^27
 pub record Factor (ts : List Monomial) : Type 0 where
   pub keys : KeysBelow (2 ^ 19) ts
   pub sizes : SizesAtMost (2 ^ 27 - 1) ts
   pub short : length ts ≤ 64
-
-pub signed-factor : (b : Bool) (ts : List Monomial) → Factor ts → Factor (signed b ts)
-signed-factor true ts f = record { keys = keys-negated (2 ^ 19) ts f.keys; sizes = sizes-negated (2 ^ 27 - 1) ts f.sizes; short = omega (arith, length-signed true ts, f.short) }
-signed-factor false ts f = f
 
 drop-factor : (i : ℕ) (ts : List Monomial) → Factor ts → Factor (drop i ts)
 drop-factor i ts f = record { keys = drop-keys (2 ^ 19) i ts f.keys; sizes = drop-sizes (2 ^ 27 - 1) i ts f.sizes; short = omega (arith, length-drop i ts, f.short) }
@@ -61,7 +45,7 @@ module _ (p q acc : List Monomial) (f : Factor p) (g : Factor q) (a : OneProduct
   product-step j m list list' h l e k n =
       let back : j - 1 + 1 ≡ j = omega arith in
       n ∙ ap₂ add_terms (ap (λ t. scale_terms t.key t.times q) e) k ∙ sym (product_cons (term_at p (j - 1)) (drop j p) q acc) ∙
-      ap (λ w. add_product w q acc) (ap (λ w. term_at p (j - 1) ∷ drop w p) (sym back) ∙ sym (at_place p (j - 1) (omega arith)))
+      ap (λ w. add_product w q acc) (ap (λ w. term_at p (j - 1) ∷ drop w p) (sym back) ∙ sym (from_place p (j - 1) (omega arith)))
 
   one_size : (m : Monomial) → magnitude m.times ≤ 2 ^ 27 - 1 → SizesAtMost (2 ^ 54) (scale_terms m.key m.times q)
   one_size m h = sizes_wide (magnitude m.times * (2 ^ 27 - 1)) (2 ^ 54) _ (omega (arith, mul-le-mul_right {m = magnitude m.times} {n = 2 ^ 27 - 1} (2 ^ 27 - 1) h)) (sizes_scaled (2 ^ 27 - 1) m.key m.times q g.sizes)

@@ -51,16 +51,22 @@ slopes-rising n lo hi (m ∷ ms) r h =
     let From : ℕ → Type 0 = λ j. Rising j hi (slopes n ms) in
     (omega arith, omega arith, not_zero_mul (pos (m.key / 32 ^ n)) m.times (some-times m.key (32 ^ n) (one-le-pow n 32 (omega arith)) k) r.2, subst From e more)
 
+signed-rising : (b : Bool) (lo hi : ℕ) (ts : List Monomial) → Rising lo hi ts → Rising lo hi (signed b ts)
+signed-rising true lo hi ts r = rising-neg lo hi ts r
+signed-rising false lo hi ts r = r
+
 pub stretch_rising : (s : Stretch) → Rising 0 (2 ^ 19) (stretch_terms s)
 stretch_rising s =
     let ts = terms_in s.view in
-    let From : ℕ → Type 0 = λ n. Rising n (2 ^ 19) (stretch_terms s) in
+    let plain = lowered s.down (drop s.from ts) in
+    let From : ℕ → Type 0 = λ n. Rising n (2 ^ 19) plain in
     let e : 0 - s.down ≡ 0 = omega arith in
-    subst From e
+    signed-rising s.negative 0 (2 ^ 19) plain
+    (subst From e
     (lowered-rising s.down 0 (2 ^ 19) (drop s.from ts) (drop-rising 0 (2 ^ 19) ts s.from (view-rising s.view))
     (λ i h.
     let q : (term_at (drop s.from ts) i).key ≡ (term_at ts (s.from + i)).key = ap (λ m. m.key) (get_or-drop s.from ts i (monomial 0 (pos 0))) in
-    let g : s.down ≤ (term_at ts (s.from + i)).key = s.above (s.from + i) (omega arith) (omega (arith, length-drop s.from ts, h)) in omega arith))
+    let g : s.down ≤ (term_at ts (s.from + i)).key = s.above (s.from + i) (omega arith) (omega (arith, length-drop s.from ts, h)) in omega arith)))
 
 pub derivative-rising : (n hi : ℕ) (ts : List Monomial) → Rising 0 hi ts → Rising 0 hi (slopes n (drop (count_below (32 ^ n) ts) ts))
 derivative-rising n hi ts r =
@@ -72,10 +78,6 @@ derivative-rising n hi ts r =
     (λ i h.
     let q : (term_at (drop (count_below b ts) ts) i).key ≡ (term_at ts (count_below b ts + i)).key = ap (λ m. m.key) (get_or-drop (count_below b ts) ts i (monomial 0 (pos 0))) in
     let g : b ≤ (term_at ts (count_below b ts + i)).key = rising-above 0 hi b ts (count_below b ts + i) r (omega arith) (omega (arith, length-drop (count_below b ts) ts, h)) in omega arith))
-
-pub signed-rising : (b : Bool) (lo hi : ℕ) (ts : List Monomial) → Rising lo hi ts → Rising lo hi (signed b ts)
-signed-rising true lo hi ts r = rising-neg lo hi ts r
-signed-rising false lo hi ts r = r
 
 pub wider : (list ts : List Monomial) → list ≡ ts → Rising 0 (2 ^ 19) ts → Rising 0 (2 ^ 20) list
 wider list ts e r = subst (Rising 0 (2 ^ 20)) (sym e) (rising_wider 0 (2 ^ 19) 0 (2 ^ 20) ts (omega arith) (omega arith) r)

@@ -5,8 +5,8 @@ use Rattle.terms.specs.Monomial.{Monomial, monomial, constant_terms}
 use Rattle.terms.specs.Operations.{variable_terms}
 use Rattle.terms.specs.LeadingTerms.{slopes}
 use Rattle.packed.specs.Terms.{term_at}
+use Rattle.packed.proofs.Leading.{from_place}
 use Rattle.wide.specs.Slopes.{slope_by}
-use Rattle.wide.proofs.Merging.{at_place}
 
 slopes_cons : (n : ℕ) (m : Monomial) (ms : List Monomial) → slopes n (m ∷ ms) ≡ slope_by (32 ^ n) m ∷ slopes n ms
 unfolding slopes
@@ -21,7 +21,7 @@ pub slopes-next : (n : ℕ) (ts out out' : List Monomial) (i : ℕ) (m : Monomia
     out' ++ slopes n (drop (i + 1) ts) ≡ out ++ slopes n (drop i ts)
 slopes-next n ts out out' i m h e q =
     ap (λ w. w ++ slopes n (drop (i + 1) ts)) q ∙ append_assoc out (m ∷ []) (slopes n (drop (i + 1) ts)) ∙
-    ap (λ w. out ++ w) (ap (λ x. x ∷ slopes n (drop (i + 1) ts)) e ∙ sym (slopes_cons n (term_at ts i) (drop (i + 1) ts)) ∙ ap (slopes n) (sym (at_place ts i h)))
+    ap (λ w. out ++ w) (ap (λ x. x ∷ slopes n (drop (i + 1) ts)) e ∙ sym (slopes_cons n (term_at ts i) (drop (i + 1) ts)) ∙ ap (slopes n) (sym (from_place ts i h)))
 
 pub constant_zero : (z : ℤ) → is_zero_number z ≡ true → constant_terms z ≡ []
 unfolding constant_terms

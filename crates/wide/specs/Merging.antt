@@ -2,9 +2,9 @@
 use Rattle.std.specs.Prelude.{◌≡◌, ℕ, ◌+◌, ◌^◌, ◌<◌, ◌≤◌, List, ◌++◌, length, drop}
 use Rattle.terms.specs.Monomial.{Monomial}
 use Rattle.terms.specs.Operations.{add_terms, scale_terms}
+use Rattle.packed.specs.declared.term.Term.{Term}
 use Rattle.packed.specs.declared.view.View.{View}
 use Rattle.packed.specs.Terms.{terms_in}
-use Rattle.wide.specs.declared.term.Term.{Term}
 use Rattle.terms.specs.Sizes.{KeysBelow, SizesAtMost}
 
 -- a monomial times a stored polynomial

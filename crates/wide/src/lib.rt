@@ -4,5 +4,4 @@
 pub mod merge;
 pub mod operations;
 pub mod scratch;
-pub mod term;
 pub mod wide;

@@ -3,13 +3,14 @@ ghost use Rattle.std.specs.Prelude.{◌≡◌, ℕ, ◌+◌, ◌^◌, ◌<◌, �
 ghost use Rattle.terms.specs.Monomial.{monomial};
 ghost use Rattle.poly.specs.Modest.{magnitude};
 ghost use Rattle.terms.specs.Operations.{add_terms, put_term};
-ghost use Rattle.packed.specs.Terms.{terms_in, term_at};
-ghost use Rattle.wide.specs.Written.{written, monomial_in};
+ghost use Rattle.packed.specs.Terms.{terms_in, term_at, monomial_in};
+ghost use Rattle.wide.specs.Written.{written};
 ghost use Rattle.wide.specs.Merging.{Addable, Merged, scaled_by};
 
-use crate::term::Term;
 use crate::wide::Wide;
+use packed::term::Term;
 use packed::view::View;
+use std::cmp::Ordering;
 
 // How far a merge has come in its two lists.
 #[derive(Clone, Copy)]
@@ -25,6 +26,7 @@ pub fn add_scaled(by: Term, polynomial: View, list: &Wide, out: &mut Wide)
 {
     out.clear();
     let mut place = Place { left: 0, right: 0 };
+    // A merge goes forward in two lists at once, so no `for` over one of them does it.
     while place.left < polynomial.len() {
         place = merge_next(by, polynomial, list, out, place);
     }
@@ -39,40 +41,43 @@ fn merge_next(by: Term, polynomial: View, list: &Wide, out: &mut Wide, place: Pl
     requires short { length (written out.old) ≤ place.left + place.right }
     ensures { Merged (scaled_by by polynomial.entry) (written list.now) place.left place.right (written out.old) result.left result.right (written out.new) }
 {
-    let left = scaled(by, polynomial, place.left);
+    let left = scaled(by, polynomial.term(place.left));
     if place.right == list.len() {
         out.push(left);
         return Place {
             left: place.left + 1,
-            right: place.right,
+            ..place
         };
     }
     let right = list.term(place.right);
-    if left.key < right.key {
-        out.push(left);
-        return Place {
-            left: place.left + 1,
-            right: place.right,
-        };
-    }
-    if right.key < left.key {
-        out.push(right);
-        return Place {
-            left: place.left,
-            right: place.right + 1,
-        };
-    }
-    push_sum(left, right, out);
-    Place {
-        left: place.left + 1,
-        right: place.right + 1,
+    match left.key.cmp(&right.key) {
+        Ordering::Less => {
+            out.push(left);
+            Place {
+                left: place.left + 1,
+                ..place
+            }
+        }
+        Ordering::Greater => {
+            out.push(right);
+            Place {
+                right: place.right + 1,
+                ..place
+            }
+        }
+        Ordering::Equal => {
+            push_sum(left, right, out);
+            Place {
+                left: place.left + 1,
+                right: place.right + 1,
+            }
+        }
     }
 }
 
 // The sum of two monomials with one key at the end of the list, unless they cancel.
 fn push_sum(left: Term, right: Term, out: &mut Wide)
     requires room { length (written out.old) < 8192 }
-    requires key { left.key < 2 ^ 63 }
     requires size { magnitude (left.coefficient +ℤ right.coefficient) < 2 ^ 63 }
     ensures { written out.new ≡ written out.old ++ put_term (monomial left.key (left.coefficient +ℤ right.coefficient)) [] }
 {
@@ -85,15 +90,14 @@ fn push_sum(left: Term, right: Term, out: &mut Wide)
     }
 }
 
-// A monomial times the one at this place.
-fn scaled(by: Term, polynomial: View, i: usize) -> Term
-    requires within { i < length (terms_in polynomial) }
-    requires key { by.key + (term_at (terms_in polynomial) i).key < 2 ^ 63 }
-    requires size { magnitude (by.coefficient *ℤ (term_at (terms_in polynomial) i).times) < 2 ^ 63 }
-    ensures { monomial_in result ≡ term_at (scaled_by by polynomial.entry) i }
+// The product of two monomials.
+fn scaled(by: Term, term: Term) -> Term
+    requires key { by.key + term.key < 2 ^ 63 }
+    requires size { magnitude (by.coefficient *ℤ term.coefficient) < 2 ^ 63 }
+    ensures { monomial_in result ≡ monomial (by.key + term.key) (by.coefficient *ℤ term.coefficient) }
 {
     Term {
-        key: by.key + polynomial.key(i),
-        coefficient: by.coefficient * polynomial.coefficient(i),
+        key: by.key + term.key,
+        coefficient: by.coefficient * term.coefficient,
     }
 }

@@ -5,16 +5,15 @@ ghost use Rattle.terms.specs.Monomial.{Rising, constant_terms};
 ghost use Rattle.terms.specs.Operations.{add_terms, neg_terms, mul_terms, variable_terms};
 ghost use Rattle.terms.specs.LeadingTerms.{length_terms, derivative_terms, slopes};
 ghost use Rattle.terms.specs.DivisionTerms.{step_terms};
-ghost use Rattle.packed.specs.Terms.{terms_in, term_at};
+ghost use Rattle.packed.specs.Terms.{terms_in, monomial_in};
 ghost use Rattle.packed.specs.StretchTerms.{stretch_terms};
-ghost use Rattle.packed.specs.Signed.{signed};
-ghost use Rattle.wide.specs.Written.{written, monomial_in};
+ghost use Rattle.wide.specs.Written.{written};
 ghost use Rattle.wide.specs.Slopes.{slope_by};
 
-use crate::scratch::{Scratch, signed_term};
-use crate::term::Term;
-use packed::place::digit_place;
+use crate::scratch::Scratch;
 use packed::stretch::Stretch;
+use packed::term::Term;
+use packed::variables::Variables;
 use packed::view::View;
 
 impl Scratch<'_> {
@@ -23,7 +22,7 @@ impl Scratch<'_> {
         ensures value { written self.new.front ≡ add_terms (terms_in left.entry) (terms_in right.entry) }
         ensures rising { Rising 0 (2 ^ 20) (written self.new.front) }
     {
-        self.copy(Stretch::whole(right), false);
+        self.copy(Stretch::whole(right));
         self.add_scaled(
             Term {
                 key: 0,
@@ -38,7 +37,7 @@ impl Scratch<'_> {
         ensures value { written self.new.front ≡ neg_terms (terms_in polynomial.entry) }
         ensures rising { Rising 0 (2 ^ 20) (written self.new.front) }
     {
-        self.copy(Stretch::whole(polynomial), true);
+        self.copy(Stretch::whole(polynomial).negated());
     }
 
     // At most 4,096 monomials.
@@ -47,47 +46,44 @@ impl Scratch<'_> {
         ensures rising { Rising 0 (2 ^ 20) (written self.new.front) }
     {
         self.clear();
-        self.add_product(Stretch::whole(left), false, right);
+        self.add_product(Stretch::whole(left), right);
     }
 
     // One step of a division by a divisor that isn't zero and has no higher degree: at most 8,192 monomials.
-    pub fn division_step(&mut self, divisor: View, dividend: View, others: u32)
-        requires few { others ≤ 4 }
-        requires real { 0 < length_terms others (terms_in divisor) }
-        requires over { length_terms others (terms_in divisor) ≤ length_terms others (terms_in dividend) }
-        ensures value { written self.new.front ≡ step_terms others (terms_in divisor.entry) (terms_in dividend.entry) }
+    pub fn division_step(&mut self, divisor: View, dividend: View, others: Variables)
+        requires real { 0 < length_terms others.count (terms_in divisor) }
+        requires over { length_terms others.count (terms_in divisor) ≤ length_terms others.count (terms_in dividend) }
+        ensures value { written self.new.front ≡ step_terms others.count (terms_in divisor.entry) (terms_in dividend.entry) }
         ensures rising { Rising 0 (2 ^ 20) (written self.new.front) }
     {
         self.clear();
-        self.add_product(Stretch::leading(divisor, others), false, dividend);
+        self.add_product(Stretch::leading(divisor, others), dividend);
         self.add_product(
-            Stretch::leading_over(dividend, divisor, others),
-            true,
+            Stretch::leading_over(dividend, divisor, others).negated(),
             divisor,
         );
     }
 
-    // A stretch of monomials, or their negatives: at most 64.
-    pub fn copy(&mut self, stretch: Stretch, negated: bool)
-        ensures value { written self.new.front ≡ signed negated (stretch_terms stretch.entry) }
+    // A stretch of monomials: at most 64.
+    pub fn copy(&mut self, stretch: Stretch)
+        ensures value { written self.new.front ≡ stretch_terms stretch.entry }
         ensures rising { Rising 0 (2 ^ 20) (written self.new.front) }
     {
         self.clear();
         for i in 0..stretch.len() {
-            self.front.push(signed_term(stretch, negated, i));
+            self.front.push(stretch.term(i));
         }
     }
 
     // The derivative in the first variable, which `others` more come after: at most 64 monomials.
-    pub fn derivative(&mut self, polynomial: View, others: u32)
-        requires { others ≤ 4 }
-        ensures value { written self.new.front ≡ derivative_terms others (terms_in polynomial.entry) }
+    pub fn derivative(&mut self, polynomial: View, others: Variables)
+        ensures value { written self.new.front ≡ derivative_terms others.count (terms_in polynomial.entry) }
         ensures rising { Rising 0 (2 ^ 20) (written self.new.front) }
     {
-        let place = digit_place(others);
+        let place = others.digit_place();
         self.clear();
         for i in polynomial.count_below(place)..polynomial.len() {
-            self.front.push(slope(polynomial, place, i));
+            self.front.push(slope(polynomial.term(i), place));
         }
     }
 
@@ -106,16 +102,14 @@ impl Scratch<'_> {
     }
 
     // One of so many variables; zero if there is none of this number.
-    pub fn variable(&mut self, variables: u32, variable: u32)
-        requires { variables ≤ 4 }
-        ensures value { written self.new.front ≡ variable_terms variables variable }
+    pub fn variable(&mut self, variables: Variables, variable: u32)
+        ensures value { written self.new.front ≡ variable_terms variables.count variable }
         ensures rising { Rising 0 (2 ^ 20) (written self.new.front) }
     {
         self.clear();
-        if variable < variables {
-            let key = digit_place(variables - variable - 1);
+        if let Some(others) = variables.after(variable) {
             self.front.push(Term {
-                key,
+                key: others.digit_place(),
                 coefficient: 1,
             });
         }
@@ -123,17 +117,16 @@ impl Scratch<'_> {
 }
 
 // A monomial's derivative, where the first variable's digit has this value and isn't zero.
-fn slope(polynomial: View, place: u64, i: usize) -> Term
+fn slope(term: Term, place: u64) -> Term
     requires place { 0 < place }
-    requires within { i < length (terms_in polynomial) }
-    requires key { place ≤ (term_at (terms_in polynomial) i).key }
-    ensures value { monomial_in result ≡ slope_by place (term_at (terms_in polynomial.entry) i) }
+    requires key { (place ≤ term.key) × (term.key < 2 ^ 19) }
+    requires size { magnitude term.coefficient < 2 ^ 27 }
+    ensures value { monomial_in result ≡ slope_by place (monomial_in term) }
     ensures bound { result.key < 2 ^ 19 }
 {
-    let key = polynomial.key(i);
-    let exponent = (key / place) as i64;
+    let exponent = (term.key / place) as i64;
     Term {
-        key: key - place,
-        coefficient: exponent * polynomial.coefficient(i),
+        key: term.key - place,
+        coefficient: exponent * term.coefficient,
     }
 }

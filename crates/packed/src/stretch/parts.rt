@@ -1,12 +1,16 @@
 // What is read of a stretch of monomials.
 ghost use Rattle.std.specs.Prelude.{◌≡◌, ℕ, ◌-◌, ◌*◌, ◌^◌, ◌<◌, ◌≤◌, length};
 ghost use Rattle.terms.specs.Monomial.{raised};
+ghost use Rattle.terms.specs.Operations.{neg_terms};
 ghost use Rattle.poly.specs.Modest.{magnitude};
 ghost use Rattle.terms.specs.LeadingTerms.{length_terms, leading_terms};
-ghost use Rattle.packed.specs.Terms.{terms_in, term_at};
+ghost use Rattle.packed.specs.Terms.{terms_in, term_at, monomial_in};
 ghost use Rattle.packed.specs.StretchTerms.{stretch_terms};
+ghost use Rattle.packed.specs.Signed.{signed_number};
 
 use super::Stretch;
+use crate::term::Term;
+use crate::variables::Variables;
 use crate::view::View;
 
 impl<'a> Stretch<'a> {
@@ -18,36 +22,49 @@ impl<'a> Stretch<'a> {
             view,
             from: 0,
             down: 0,
+            negative: false,
         }
     }
 
     // The leading coefficient, a polynomial in the `others` variables that come after the first.
-    pub fn leading(view: View<'a>, others: u32) -> Stretch<'a>
-        requires { others ≤ 4 }
-        ensures { stretch_terms result ≡ leading_terms others (terms_in view.entry) }
+    pub fn leading(view: View<'a>, others: Variables) -> Stretch<'a>
+        ensures { stretch_terms result ≡ leading_terms others.count (terms_in view.entry) }
     {
         let down = view.leading_key(others);
         let from = view.count_below(down);
-        Stretch { view, from, down }
+        Stretch {
+            view,
+            from,
+            down,
+            negative: false,
+        }
     }
 
     // The leading coefficient of the dividend with that power of the first variable by which its degree exceeds the divisor's.
-    pub fn leading_over(dividend: View<'a>, divisor: View, others: u32) -> Stretch<'a>
-        requires few { others ≤ 4 }
-        requires real { 0 < length_terms others (terms_in divisor) }
-        requires over { length_terms others (terms_in divisor) ≤ length_terms others (terms_in dividend) }
-        ensures { stretch_terms result ≡ raised ((length_terms others (terms_in dividend.entry) - length_terms others (terms_in divisor.entry)) * 32 ^ others) (leading_terms others (terms_in dividend.entry)) }
+    pub fn leading_over(dividend: View<'a>, divisor: View, others: Variables) -> Stretch<'a>
+        requires real { 0 < length_terms others.count (terms_in divisor) }
+        requires over { length_terms others.count (terms_in divisor) ≤ length_terms others.count (terms_in dividend) }
+        ensures { stretch_terms result ≡ raised ((length_terms others.count (terms_in dividend.entry) - length_terms others.count (terms_in divisor.entry)) * 32 ^ others.count) (leading_terms others.count (terms_in dividend.entry)) }
     {
         let from = dividend.count_below(dividend.leading_key(others));
         Stretch {
             view: dividend,
             from,
             down: divisor.leading_key(others),
+            negative: false,
         }
     }
 }
 
 impl Stretch<'_> {
+    // The negatives of all.
+    pub fn negated(mut self) -> Self
+        ensures { stretch_terms result ≡ neg_terms (stretch_terms self.entry) }
+    {
+        self.negative = !self.negative;
+        self
+    }
+
     pub fn len(&self) -> usize
         ensures value { result ≡ length (stretch_terms self.now) }
         ensures bound { result ≤ 64 }
@@ -55,19 +72,26 @@ impl Stretch<'_> {
         self.view.len() - self.from
     }
 
-    pub fn key(&self, i: usize) -> u64
+    // The monomial at a place.
+    pub fn term(&self, i: usize) -> Term
         requires { i < length (stretch_terms self.now) }
-        ensures value { result ≡ (term_at (stretch_terms self.now) i).key }
-        ensures bound { result < 2 ^ 19 }
+        ensures value { monomial_in result ≡ term_at (stretch_terms self.now) i }
+        ensures key { result.key < 2 ^ 19 }
+        ensures size { magnitude result.coefficient < 2 ^ 27 }
     {
-        self.view.key(self.from + i) - self.down
+        let term = self.view.term(self.from + i);
+        Term {
+            key: term.key - self.down,
+            coefficient: self.with_sign(term.coefficient),
+        }
     }
 
-    pub fn coefficient(&self, i: usize) -> i64
-        requires { i < length (stretch_terms self.now) }
-        ensures value { result ≡ (term_at (stretch_terms self.now) i).times }
-        ensures bound { magnitude result < 2 ^ 27 }
+    // A coefficient, or its negative.
+    fn with_sign(&self, x: i64) -> i64
+        requires { magnitude x < 2 ^ 27 }
+        ensures value { result ≡ signed_number self.now.negative x }
+        ensures size { magnitude result < 2 ^ 27 }
     {
-        self.view.coefficient(self.from + i)
+        if self.negative { -x } else { x }
     }
 }

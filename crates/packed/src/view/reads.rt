@@ -2,12 +2,13 @@
 ghost use Rattle.std.specs.Prelude.{◌≡◌, ℕ, ◌+◌, ◌^◌, ◌<◌, ◌≤◌, length};
 ghost use Rattle.poly.specs.Modest.{magnitude};
 ghost use Rattle.packed.specs.Stored.{Stored};
-ghost use Rattle.packed.specs.Terms.{terms_in, term_at};
+ghost use Rattle.packed.specs.Terms.{terms_in, term_at, monomial_in};
 ghost use Rattle.terms.specs.Operations.{is_zero_terms};
 ghost use Rattle.terms.specs.LeadingTerms.{last_key};
-ghost use Rattle.terms.specs.Cells.{monomial_of, monomials_of};
+ghost use Rattle.terms.specs.Cells.{monomials_of};
 
 use super::View;
+use crate::term::Term;
 
 impl<'a> View<'a> {
     // Of numbers that are a stored polynomial.
@@ -28,29 +29,14 @@ impl View<'_> {
         self.cells.len()
     }
 
-    // A monomial as it is stored.
-    fn cell(&self, i: usize) -> i64
+    // The monomial at a place.
+    pub fn term(&self, i: usize) -> Term
         requires { i < length (terms_in self.now) }
-        ensures { monomial_of result ≡ term_at (terms_in self.now) i }
+        ensures value { monomial_in result ≡ term_at (terms_in self.now) i }
+        ensures key { result.key < 2 ^ 19 }
+        ensures size { magnitude result.coefficient < 2 ^ 27 }
     {
-        self.cells[i]
-    }
-
-    // A monomial's exponents, a digit in base 32 for each variable.
-    pub fn key(&self, i: usize) -> u64
-        requires { i < length (terms_in self.now) }
-        ensures value { result ≡ (term_at (terms_in self.now) i).key }
-        ensures bound { result < 2 ^ 19 }
-    {
-        self.cell(i).rem_euclid(1 << 20).unsigned_abs()
-    }
-
-    pub fn coefficient(&self, i: usize) -> i64
-        requires { i < length (terms_in self.now) }
-        ensures value { result ≡ (term_at (terms_in self.now) i).times }
-        ensures bound { magnitude result < 2 ^ 27 }
-    {
-        self.cell(i).div_euclid(1 << 20)
+        Term::from(self.cells[i])
     }
 
     pub fn is_zero(&self) -> bool
@@ -64,10 +50,9 @@ impl View<'_> {
         ensures value { result ≡ last_key (terms_in self.now) }
         ensures bound { result < 2 ^ 19 }
     {
-        let len = self.len();
-        if len == 0 {
-            return 0;
+        match self.cells {
+            [] => 0,
+            [.., last] => Term::from(*last).key,
         }
-        self.key(len - 1)
     }
 }

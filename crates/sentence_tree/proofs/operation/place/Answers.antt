@@ -1,9 +1,12 @@
-use Rattle.std.proofs.Common.{rules}
-use Rattle.sentence_tree.proofs.Stored.{placed_modest}
+use Rattle.std.proofs.Common.{sym, subst}
+use Rattle.wide.specs.Written.{written}
+use Rattle.sentence_tree.specs.Placed.{Places}
+use Rattle.sentence_tree.proofs.Stored.{placed_stored}
 use Rattle.sentence_tree.proofs.operation.place.Goals as goal
 
-pub returns-in-Ok : goal.returns-in-Ok
-returns-in-Ok c = record {
-  placed = placed_modest _ _ _ _ _ _ c.in-Ok.ensures.stored;
-  lent = search rules;
-}
+pub returns-clause-placed : goal.returns-clause-placed
+returns-clause-placed c =
+    let arena = c.args.arena.now in
+    let after = c.pack.new.arena in
+    subst (λ r. Places (written c.args.list.now) r arena.top arena.cells.now after.top after.cells.now) (sym c.ok.ensures.value)
+    (placed_stored c.pack.result (written c.args.list.now) arena.top arena.cells.now after.top after.cells.now c.pack.ensures.stored)

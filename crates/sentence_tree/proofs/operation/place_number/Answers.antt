@@ -6,13 +6,8 @@ use Rattle.storage.specs.Denoting.{Checks}
 use Rattle.storage.proofs.Denoting.{denoting_laws}
 use Rattle.sentence_tree.proofs.operation.place_number.Goals as goal
 
-pub returns : goal.returns
-returns c =
-    let n = c.args.variables in
+pub returns-clause-placed : goal.returns-clause-placed
+returns-clause-placed c n few =
     let z = c.args.number in
-    let p = constant n z in
     let fits : SFits w64 z = search rules in
-    record {
-      placed = c.place.ensures.placed n p (subst (λ ts. Checks n ts p) (sym (c.number.ensures.value ∙ ap constant_terms (to_z-of_z w64 z fits))) (denoting_laws.number_checks n z c.requires.few));
-      lent = c.place.ensures.lent;
-    }
+    c.place.ensures.placed n (constant n z) (subst (λ ts. Checks n ts (constant n z)) (sym (c.number.ensures.value ∙ ap constant_terms (to_z-of_z w64 z fits))) (denoting_laws.number_checks n z few))

@@ -1,12 +1,8 @@
 -- The counts add up.
 use Rattle.std.proofs.Common.{arith}
 use Rattle.wide.specs.Written.{written}
-use Rattle.wide.proofs.Written.{written-most}
 use Rattle.storage.proofs.ModestSteps.{digits_end}
 use Rattle.storage.proofs.modest.number_count.Goals as goal
-
-pub overflow_add-count : goal.overflow_add-count
-overflow_add-count c = record { fits = omega (arith, c.loop-i.invariant.1, c.numbers_at-count.ensures.bound, c.loop-i-test.true, c.len-i-end.ensures, written-most c.args.list.now) }
 
 pub returns : goal.returns
 returns c = omega (arith, c.loop-i.invariant.0, digits_end (written c.args.list.now) c.loop-i.i (omega (arith, c.loop-i-test.false, c.len-i-end.ensures)))

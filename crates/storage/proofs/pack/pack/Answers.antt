@@ -37,19 +37,15 @@ loop-i-preserved c =
       c.loop-i.invariant.2,
     )
 
-pub returns : goal.returns
-returns c =
+pub returns-clause-stored : goal.returns-clause-stored
+returns-clause-stored c =
     let ts = written c.args.list.now in
     let all : take c.loop-i.i (cells_of ts) ≡ cells_of ts = take_all c.loop-i.i (cells_of ts) (omega (arith, length-cells ts, c.loop-i-test.false, c.len-i-end.ensures)) in
     record {
-      stored =
-          record {
-            modest = c.loop-i.invariant.2;
-            counted = c.len.ensures;
-            grown =
-                subst (λ w. Grown w c.args.arena.now.top c.args.arena.now.cells.now c.loop-i.arena.top c.loop-i.arena.cells.now) all c.loop-i.invariant.0;
-            good = cells-stored ts c.requires.rising (subst T (sym c.loop-i.invariant.2) tt);
-            back = cells-back ts c.requires.rising;
-          };
-      lent = c.loop-i.invariant.1;
+      modest = c.loop-i.invariant.2;
+      counted = c.len.ensures;
+      grown =
+          subst (λ w. Grown w c.args.arena.now.top c.args.arena.now.cells.now c.loop-i.arena.top c.loop-i.arena.cells.now) all c.loop-i.invariant.0;
+      good = cells-stored ts c.requires.rising (subst T (sym c.loop-i.invariant.2) tt);
+      back = cells-back ts c.requires.rising;
     }

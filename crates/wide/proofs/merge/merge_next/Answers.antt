@@ -1,75 +1,89 @@
 -- The lower key comes first, and monomials with one key are added.
-use Rattle.std.proofs.Common.{ℕ, ◌^◌, ◌<◌, [], ◌∷◌, ◌++◌, length, ◌+ℤ◌, sym, ap, ◌∙◌, subst, ap₂, arith}
+use Rattle.std.proofs.Common.{◌≡◌, ℕ, ◌+◌, ◌^◌, ◌<◌, [], ◌∷◌, ◌++◌, length, ◌+ℤ◌, ◌*ℤ◌, nat_cmp, Less, Equal, Greater, sym, ap, ◌∙◌, subst, ap₂, arith}
+use Rattle.std.proofs.lemmas.Bool.Decides.{nat_tests}
 use Rattle.poly.specs.Modest.{magnitude}
-use Rattle.terms.specs.Monomial.{monomial}
+use Rattle.terms.specs.Monomial.{Monomial, monomial}
 use Rattle.terms.specs.Operations.{put_term}
+use Rattle.terms.proofs.Bounds.{length_scaled}
 use Rattle.packed.specs.Terms.{terms_in}
-use Rattle.packed.proofs.Places.{key_at}
 use Rattle.wide.specs.Written.{written}
 use Rattle.wide.specs.Merging.{scaled_by}
-use Rattle.wide.proofs.Bounds.{product-fits, pair_fits}
+use Rattle.wide.proofs.Bounds.{product-fits, pair_fits, scaled_term}
 use Rattle.wide.proofs.Merging.{merged_end, merged_left, merged_right, merged_both}
 use Rattle.wide.proofs.merge.merge_next.Goals as goal
+
+cmp-less : (a b : ℕ) → nat_cmp a b ≡ Less → a < b
+cmp-less a b e = grind (arith, nat_tests)
+
+cmp-greater : (a b : ℕ) → nat_cmp a b ≡ Greater → b < a
+cmp-greater a b e = grind (arith, nat_tests)
+
+cmp-equal : (a b : ℕ) → nat_cmp a b ≡ Equal → a ≡ b
+cmp-equal a b e = grind (arith, nat_tests)
+
+pub term-requires : goal.term-requires
+term-requires c = omega (arith, c.requires.left, length_scaled c.args.by.key c.args.by.coefficient (terms_in c.args.polynomial))
 
 pub scaled-left-requires : goal.scaled-left-requires
 scaled-left-requires c =
     let f = product-fits c.args.by.key c.args.by.coefficient (terms_in c.args.polynomial) (written c.args.list.now) c.args.place.left c.requires.fits c.requires.left in
-    record { within = f.inside; key = f.key; size = f.size }
-
-pub push-requires : goal.push-requires
-push-requires c = (
-  omega (arith, c.requires.left, c.requires.right, c.requires.short, c.requires.fits.room),
-  omega (arith, ap (λ m. m.key) c.scaled-left.ensures, key_at (2 ^ 63) (scaled_by c.args.by c.args.polynomial) c.args.place.left c.requires.fits.keys_left c.requires.left),
-)
+    let e = c.term.ensures.value in
+    let Key : Monomial → Type 0 = λ m. c.args.by.key + m.key < 2 ^ 63 in
+    let Size : Monomial → Type 0 = λ m. magnitude (c.args.by.coefficient *ℤ m.times) < 2 ^ 63 in
+    record { key = subst Key (sym e) f.key; size = subst Size (sym e) f.size }
 
 pub returns-then-place-len : goal.returns-then-place-len
 returns-then-place-len c =
-    merged_end (scaled_by c.args.by c.args.polynomial) (written c.args.list.now) c.args.place.left c.args.place.right (written c.args.out.now) c.requires.short _
-    (c.push.ensures ∙ ap (λ m. written c.args.out.now ++ m ∷ []) c.scaled-left.ensures) c.requires.left (c.if-place-len.true ∙ c.len.ensures)
+    let p = scaled_by c.args.by c.args.polynomial in
+    let q = written c.args.list.now in
+    let left = scaled_term c.args.by c.args.polynomial c.args.place.left c.term.result c.scaled-left.result c.requires.left c.term.ensures.value c.scaled-left.ensures in
+    merged_end p q c.args.place.left c.args.place.right (written c.args.out.now) c.requires.short _
+    (c.push.ensures ∙ ap (λ m. written c.args.out.now ++ m ∷ []) left) c.requires.left (c.if-place-len.true ∙ c.len.ensures)
 
-pub push-requires-then-left-right : goal.push-requires-then-left-right
-push-requires-then-left-right c = (
-  omega (arith, c.requires.left, c.requires.right, c.requires.short, c.requires.fits.room),
-  omega (arith, ap (λ m. m.key) c.scaled-left.ensures, key_at (2 ^ 63) (scaled_by c.args.by c.args.polynomial) c.args.place.left c.requires.fits.keys_left c.requires.left),
-)
+pub returns-in-Less : goal.returns-in-Less
+returns-in-Less c =
+    let p = scaled_by c.args.by c.args.polynomial in
+    let q = written c.args.list.now in
+    let left = scaled_term c.args.by c.args.polynomial c.args.place.left c.term.result c.scaled-left.result c.requires.left c.term.ensures.value c.scaled-left.ensures in
+    let j : c.args.place.right < length q = omega (arith, c.len.ensures, c.if-place-len.false, c.requires.right) in
+    let less : c.scaled-left.result.key < c.term-right.result.key = cmp-less _ _ (sym c.in-Less.ensures) in
+    merged_left p q c.args.place.left c.args.place.right (written c.args.out.now) c.requires.short _
+    (c.push-in-Less.ensures ∙ ap (λ m. written c.args.out.now ++ m ∷ []) left) c.requires.left j
+    (omega (arith, ap (λ m. m.key) left, ap (λ m. m.key) c.term-right.ensures, less))
 
-pub returns-then-left-right : goal.returns-then-left-right
-returns-then-left-right c =
-    let j : c.args.place.right < length (written c.args.list.now) = omega (arith, c.len.ensures, c.if-place-len.false, c.requires.right) in
-    merged_left (scaled_by c.args.by c.args.polynomial) (written c.args.list.now) c.args.place.left c.args.place.right (written c.args.out.now) c.requires.short _
-    (c.push-then-left-right.ensures ∙ ap (λ m. written c.args.out.now ++ m ∷ []) c.scaled-left.ensures) c.requires.left j
-    (omega (arith, ap (λ m. m.key) c.scaled-left.ensures, ap (λ m. m.key) c.term-right.ensures, c.if-left-right.true))
-
-pub push-requires-then-right-left : goal.push-requires-then-right-left
-push-requires-then-right-left c =
-    let j : c.args.place.right < length (written c.args.list.now) = omega (arith, c.len.ensures, c.if-place-len.false, c.requires.right) in (
-      omega (arith, c.requires.left, c.requires.right, c.requires.short, c.requires.fits.room),
-      omega (arith, ap (λ m. m.key) c.term-right.ensures, key_at (2 ^ 63) (written c.args.list.now) c.args.place.right c.requires.fits.keys_right j),
-    )
-
-pub returns-then-right-left : goal.returns-then-right-left
-returns-then-right-left c =
-    let j : c.args.place.right < length (written c.args.list.now) = omega (arith, c.len.ensures, c.if-place-len.false, c.requires.right) in
-    merged_right (scaled_by c.args.by c.args.polynomial) (written c.args.list.now) c.args.place.left c.args.place.right (written c.args.out.now) c.requires.short _
-    (c.push-then-right-left.ensures ∙ ap (λ m. written c.args.out.now ++ m ∷ []) c.term-right.ensures) c.requires.left j
-    (omega (arith, ap (λ m. m.key) c.scaled-left.ensures, ap (λ m. m.key) c.term-right.ensures, c.if-right-left.true))
+pub returns-in-Greater : goal.returns-in-Greater
+returns-in-Greater c =
+    let p = scaled_by c.args.by c.args.polynomial in
+    let q = written c.args.list.now in
+    let left = scaled_term c.args.by c.args.polynomial c.args.place.left c.term.result c.scaled-left.result c.requires.left c.term.ensures.value c.scaled-left.ensures in
+    let j : c.args.place.right < length q = omega (arith, c.len.ensures, c.if-place-len.false, c.requires.right) in
+    let less : c.term-right.result.key < c.scaled-left.result.key = cmp-greater _ _ (sym c.in-Greater.ensures) in
+    merged_right p q c.args.place.left c.args.place.right (written c.args.out.now) c.requires.short _
+    (c.push-in-Greater.ensures ∙ ap (λ m. written c.args.out.now ++ m ∷ []) c.term-right.ensures) c.requires.left j
+    (omega (arith, ap (λ m. m.key) left, ap (λ m. m.key) c.term-right.ensures, less))
 
 pub push_sum-requires : goal.push_sum-requires
 push_sum-requires c =
-    let j : c.args.place.right < length (written c.args.list.now) = omega (arith, c.len.ensures, c.if-place-len.false, c.requires.right) in
-    let f = pair_fits (scaled_by c.args.by c.args.polynomial) (written c.args.list.now) c.args.place.left c.args.place.right c.requires.fits c.requires.left j in
+    let p = scaled_by c.args.by c.args.polynomial in
+    let q = written c.args.list.now in
+    let left = scaled_term c.args.by c.args.polynomial c.args.place.left c.term.result c.scaled-left.result c.requires.left c.term.ensures.value c.scaled-left.ensures in
+    let j : c.args.place.right < length q = omega (arith, c.len.ensures, c.if-place-len.false, c.requires.right) in
+    let f = pair_fits p q c.args.place.left c.args.place.right c.requires.fits c.requires.left j in
     let Small : ℕ → Type 0 = λ n. n < 2 ^ 63 in
     record {
       room = omega (arith, c.requires.left, j, c.requires.short, c.requires.fits.room);
-      key = subst Small (sym (ap (λ m. m.key) c.scaled-left.ensures)) f.left_key;
-      size = subst Small (ap magnitude (sym (ap₂ ◌+ℤ◌ (ap (λ m. m.times) c.scaled-left.ensures) (ap (λ m. m.times) c.term-right.ensures)))) f.size;
+      size = subst Small (ap magnitude (sym (ap₂ ◌+ℤ◌ (ap (λ m. m.times) left) (ap (λ m. m.times) c.term-right.ensures)))) f.size;
     }
 
-pub returns : goal.returns
-returns c =
-    let j : c.args.place.right < length (written c.args.list.now) = omega (arith, c.len.ensures, c.if-place-len.false, c.requires.right) in
-    merged_both (scaled_by c.args.by c.args.polynomial) (written c.args.list.now) c.args.place.left c.args.place.right (written c.args.out.now) c.requires.short _
+pub returns-in-Equal : goal.returns-in-Equal
+returns-in-Equal c =
+    let p = scaled_by c.args.by c.args.polynomial in
+    let q = written c.args.list.now in
+    let left = scaled_term c.args.by c.args.polynomial c.args.place.left c.term.result c.scaled-left.result c.requires.left c.term.ensures.value c.scaled-left.ensures in
+    let j : c.args.place.right < length q = omega (arith, c.len.ensures, c.if-place-len.false, c.requires.right) in
+    let same : c.scaled-left.result.key ≡ c.term-right.result.key = cmp-equal _ _ (sym c.in-Equal.ensures) in
+    merged_both p q c.args.place.left c.args.place.right (written c.args.out.now) c.requires.short _
     (c.push_sum.ensures ∙
     ap (λ m. written c.args.out.now ++ put_term m [])
-    (ap₂ monomial (ap (λ m. m.key) c.scaled-left.ensures) (ap₂ ◌+ℤ◌ (ap (λ m. m.times) c.scaled-left.ensures) (ap (λ m. m.times) c.term-right.ensures))))
-    c.requires.left j (omega (arith, ap (λ m. m.key) c.scaled-left.ensures, ap (λ m. m.key) c.term-right.ensures, c.if-left-right.false, c.if-right-left.false))
+    (ap₂ monomial (ap (λ m. m.key) left) (ap₂ ◌+ℤ◌ (ap (λ m. m.times) left) (ap (λ m. m.times) c.term-right.ensures))))
+    c.requires.left j (sym (ap (λ m. m.key) left) ∙ same ∙ ap (λ m. m.key) c.term-right.ensures)

@@ -3,19 +3,11 @@ use Rattle.std.proofs.Common.{◌≡◌, false, [], ◌∷◌, ◌++◌, ◌+ℤ
 use Rattle.std.proofs.lemmas.Int.{to_z-of_z}
 use Rattle.poly.specs.Poly.{is_zero_number}
 use Rattle.terms.specs.Monomial.{monomial}
+use Rattle.packed.proofs.Places.{mag_small}
 use Rattle.wide.specs.Written.{written}
-use Rattle.wide.proofs.Bounds.{from_size, size_fits, mag_small, zero_bits, other_bits}
+use Rattle.wide.proofs.Bounds.{from_size, zero_bits, other_bits}
 use Rattle.wide.proofs.Merging.{put_none, put_one}
 use Rattle.wide.proofs.merge.push_sum.Goals as goal
-
-pub overflow_add-sum : goal.overflow_add-sum
-overflow_add-sum c =
-    let f : SFits w64 c.args.left.coefficient = search rules in
-    let g : SFits w64 c.args.right.coefficient = search rules in
-    subst (SFits w64) (sym (ap₂ ◌+ℤ◌ (to_z-of_z w64 _ f) (to_z-of_z w64 _ g))) (size_fits _ c.requires.size)
-
-pub push-requires : goal.push-requires
-push-requires c = (c.requires.room, c.requires.key)
 
 pub returns-then-sum-ne0 : goal.returns-then-sum-ne0
 returns-then-sum-ne0 c =

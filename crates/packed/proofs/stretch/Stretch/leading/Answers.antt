@@ -1,6 +1,5 @@
 -- From the first key that is high enough on, no key is lower.
-use Rattle.std.proofs.Common.{◌^◌, drop, ap, ◌∙◌, ap₂, arith}
-use Rattle.terms.specs.LeadingTerms.{lowered, count_below}
+use Rattle.std.proofs.Common.{◌^◌, arith}
 use Rattle.packed.specs.Terms.{terms_in}
 use Rattle.packed.proofs.Leading.{below-most, rising-above}
 use Rattle.packed.proofs.Lowered.{view-rising}
@@ -11,8 +10,3 @@ invariant_of-result c = record {
   inside = omega (arith, c.count_below-from.ensures, below-most c.leading_key-down.result (terms_in c.args.view));
   above = λ i h l. rising-above 0 (2 ^ 19) c.leading_key-down.result (terms_in c.args.view) i (view-rising c.args.view) (omega (arith, c.count_below-from.ensures, h)) l;
 }
-
-pub returns : goal.returns
-returns c =
-    ap₂ (λ d n. lowered d (drop n (terms_in c.args.view))) c.leading_key-down.ensures.value
-    (c.count_below-from.ensures ∙ ap (λ b. count_below b (terms_in c.args.view)) c.leading_key-down.ensures.value)

@@ -8,7 +8,7 @@ use Rattle.packed.proofs.stretch.Stretch.leading_over.Goals as goal
 
 pub invariant_of-result : goal.invariant_of-result
 invariant_of-result c =
-    let gap = leading_gap c.args.others (terms_in c.args.divisor) (terms_in c.args.dividend) c.requires.real c.requires.over in
+    let gap = leading_gap c.args.others.count (terms_in c.args.divisor) (terms_in c.args.dividend) c.requires.real c.requires.over in
     let low : c.leading_key-2.result ≤ c.leading_key.result = omega (arith, gap, c.leading_key-2.ensures.value, c.leading_key.ensures.value) in record {
       inside = omega (arith, c.count_below-from.ensures, below-most c.leading_key.result (terms_in c.args.dividend));
       above = λ i h l.
@@ -20,4 +20,4 @@ pub returns : goal.returns
 returns c =
     ap₂ (λ d n. lowered d (drop n (terms_in c.args.dividend))) c.leading_key-2.ensures.value
     (c.count_below-from.ensures ∙ ap (λ b. count_below b (terms_in c.args.dividend)) c.leading_key.ensures.value) ∙
-    sym (leading_raised 0 (2 ^ 19) c.args.others (terms_in c.args.divisor) (terms_in c.args.dividend) (view-rising c.args.dividend) c.requires.real c.requires.over)
+    sym (leading_raised 0 (2 ^ 19) c.args.others.count (terms_in c.args.divisor) (terms_in c.args.dividend) (view-rising c.args.dividend) c.requires.real c.requires.over)

@@ -1,0 +1,31 @@
+// Whether two stretches have the same monomials.
+ghost use Rattle.std.specs.Ordering.{on};
+ghost use Rattle.std.specs.Cmp.{on_per};
+ghost use Rattle.std.proofs.lemmas.Cmp.{on_equiv};
+ghost use Rattle.terms.specs.Operations.{same_terms};
+ghost use Rattle.packed.specs.StretchTerms.{stretch_terms};
+ghost use Rattle.packed.specs.Same.{same_terms-per, same_terms-equivalence};
+
+use super::Stretch;
+
+impl PartialEq for Stretch<'_> {
+    ghost eq = { on stretch_terms same_terms };
+
+    ghost laws = { on_per stretch_terms same_terms-per };
+
+    fn eq(&self, other: &Self) -> bool {
+        if self.len() != other.len() {
+            return false;
+        }
+        for i in 0..self.len() {
+            if self.term(i) != other.term(i) {
+                return false;
+            }
+        }
+        true
+    }
+}
+
+impl Eq for Stretch<'_> {
+    ghost laws = { on_equiv stretch_terms same_terms-equivalence };
+}
