@@ -106,16 +106,6 @@ divide_fails zero n p q k h t m = absurd (omega arith)
 divide_fails (suc fuel) n p q k h t m = ap (λ d. d.good) (divide_by fuel n p q k t ∙ ap (by_step fuel n p q k) m)
 
 module _ (n : ℕ) (ps ss : List Monomial) (mark : ℕ) (cells : List ℤ) (few : suc n ≤ 4) where
-  pub begun : (dividend : Span) → ss ≡ terms_at dividend cells → Holds dividend mark cells → Dividing n ps ss mark cells (length_terms n ss + 1) (length_terms n ss + 1) 0 dividend mark cells
-  begun dividend e h =
-      record {
-        means = λ p s dp ds. (s, subst (λ ts. Denotes (suc n) ts s) e ds, refl);
-        holds = h;
-        untouched = record { same = refl; long = refl; above = omega arith; most = omega arith };
-        modest = λ l. absurd (omega arith);
-        counted = omega arith;
-      }
-
   module _ (fuel steps : ℕ) (rest : Span) (top1 : ℕ) (cells1 : List ℤ) (d : Dividing n ps ss mark cells (length_terms n ss + 1) fuel steps rest top1 cells1) where
     -- the division goes on where the divisor isn't longer
     goes : (p q : Poly) → Denotes (suc n) ps p → Denotes (suc n) (terms_at rest cells1) q → leb (length_terms n ps) (length_terms n (terms_at rest cells1)) ≡ true →
@@ -247,10 +237,6 @@ outcome_fine : (n : ℕ) (h : Sign) (k : ℕ) (q : Poly) → outcome n h (record
 unfolding outcome
 outcome_fine n h k q = refl
 
-outcome_big : (n : ℕ) (h : Sign) (d : Division) → d.good ≡ false → outcome n h d ≡ TooBig
-unfolding outcome
-outcome_big n h d e = rw (e, outcome)
-
 -- the remainder is what is left
 pub plain-remainder : (n : ℕ) (h : Sign) (ps ss : List Monomial) (mark : ℕ) (cells : List ℤ) (steps : ℕ) (rest : Span) (top' : ℕ) (cells' : List ℤ) → exchanges_sign steps h ≡ false →
     Divided n ps ss mark cells steps rest top' cells' → Remainder n h ps ss mark cells rest top' cells'
@@ -279,11 +265,6 @@ exchanged-remainder n h ps ss mark cells steps rest top1 cells1 count top2 cells
       holds = holds-new count (neg_terms (terms_at rest cells1)) mark cells1 top2 cells2 l k;
       untouched = untouched_on mark cells top1 cells1 top2 cells2 d.untouched (grown-untouched (cells_of (neg_terms (terms_at rest cells1))) mark cells1 top2 cells2 l k.good.short k.grown);
     }
-
-pub refused_remainder : (n : ℕ) (h : Sign) (ps ss : List Monomial) (mark : ℕ) (cells : List ℤ) (top' : ℕ) (cells' : List ℤ) → Refused n ps ss mark cells top' cells' →
-    NoRemainder n h ps ss mark cells top' cells'
-refused_remainder n h ps ss mark cells top' cells' f =
-    record { means = λ p s dp ds. remainder_by n h p s ∙ outcome_big n h _ (f.means p s dp ds); untouched = f.untouched; back = f.back }
 
 -- an exchanged sign comes after a step
 pub exchanged-steps : (k : ℕ) (h : Sign) → exchanges_sign k h ≡ true → 0 < k

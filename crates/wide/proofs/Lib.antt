@@ -1,4 +1,5 @@
 -- Lemmas on lists of monomials in lent memory.
+pub mod Pairs
 pub mod Written
 pub mod Merging
 pub mod Bounds

@@ -78,6 +78,7 @@ fn merge_next(by: Term, polynomial: View, list: &Wide, out: &mut Wide, place: Pl
 // The sum of two monomials with one key at the end of the list, unless they cancel.
 fn push_sum(left: Term, right: Term, out: &mut Wide)
     requires room { length (written out.old) < 8192 }
+    requires key { left.key < 2 ^ 63 }
     requires size { magnitude (left.coefficient +ℤ right.coefficient) < 2 ^ 63 }
     ensures { written out.new ≡ written out.old ++ put_term (monomial left.key (left.coefficient +ℤ right.coefficient)) [] }
 {

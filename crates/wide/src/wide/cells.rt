@@ -1,5 +1,6 @@
 // What is read of a list of monomials and written to it.
 ghost use Rattle.std.specs.Prelude.{◌≡◌, ℕ, ◌+◌, ◌-◌, ◌^◌, ◌<◌, ◌≤◌, [], ◌∷◌, ◌++◌, length, drop};
+ghost use Rattle.terms.specs.Sizes.{KeysBelow};
 ghost use Rattle.packed.specs.Terms.{term_at, monomial_in};
 ghost use Rattle.wide.specs.Written.{written};
 
@@ -8,11 +9,15 @@ use packed::term::Term;
 
 impl<'a> Wide<'a> {
     // An empty list in this memory.
-    pub fn new(terms: &'a mut [Term]) -> Wide<'a>
-        requires { length terms.old ≡ 8192 }
+    pub fn new(keys: &'a mut [i64], coefficients: &'a mut [i64]) -> Wide<'a>
+        requires { (length keys.old ≡ 8192) × (length coefficients.old ≡ 8192) }
         ensures { written result ≡ [] }
     {
-        Wide { terms, len: 0 }
+        Wide {
+            keys,
+            coefficients,
+            len: 0,
+        }
     }
 }
 
@@ -34,15 +39,19 @@ impl Wide<'_> {
         requires { i < length (written self.now) }
         ensures { monomial_in result ≡ term_at (written self.now) i }
     {
-        self.terms[i]
+        Term {
+            key: self.keys[i].unsigned_abs(),
+            coefficient: self.coefficients[i],
+        }
     }
 
-    // One more monomial at the end, where there is room for it.
+    // One more monomial at the end, where there is room for it and its key fits.
     pub fn push(&mut self, term: Term)
-        requires { length (written self.old) < 8192 }
+        requires { (length (written self.old) < 8192) × (term.key < 2 ^ 63) }
         ensures { written self.new ≡ written self.old ++ monomial_in term ∷ [] }
     {
-        self.terms[self.len] = term;
+        self.keys[self.len] = term.key as i64;
+        self.coefficients[self.len] = term.coefficient;
         self.len += 1;
     }
 
@@ -50,6 +59,7 @@ impl Wide<'_> {
     pub fn append(&mut self, list: &Wide, from: usize)
         requires from { from ≤ length (written list.now) }
         requires room { length (written self.old) + (length (written list.now) - from) ≤ 8192 }
+        requires keys { KeysBelow (2 ^ 63) (written list.now) }
         ensures { written self.new ≡ written self.old ++ drop from (written list.now) }
     {
         for i in from..list.len() {

@@ -6,6 +6,7 @@ use Rattle.terms.specs.Monomial.{Monomial, monomial}
 use Rattle.terms.specs.Operations.{put_term}
 use Rattle.terms.proofs.Bounds.{length_scaled}
 use Rattle.packed.specs.Terms.{terms_in}
+use Rattle.packed.proofs.Places.{key_at}
 use Rattle.wide.specs.Written.{written}
 use Rattle.wide.specs.Merging.{scaled_by}
 use Rattle.wide.proofs.Bounds.{product-fits, pair_fits, scaled_term}
@@ -32,6 +33,15 @@ scaled-left-requires c =
     let Size : Monomial → Type 0 = λ m. magnitude (c.args.by.coefficient *ℤ m.times) < 2 ^ 63 in
     record { key = subst Key (sym e) f.key; size = subst Size (sym e) f.size }
 
+pub push-requires : goal.push-requires
+push-requires c =
+    let p = scaled_by c.args.by c.args.polynomial in
+    let q = written c.args.list.now in
+    let left = scaled_term c.args.by c.args.polynomial c.args.place.left c.term.result c.scaled-left.result c.requires.left c.term.ensures.value c.scaled-left.ensures in (
+      omega (arith, c.requires.left, c.requires.right, c.requires.short, c.requires.fits.room),
+      omega (arith, ap (λ m. m.key) left, key_at (2 ^ 63) p c.args.place.left c.requires.fits.keys_left c.requires.left),
+    )
+
 pub returns-then-place-len : goal.returns-then-place-len
 returns-then-place-len c =
     let p = scaled_by c.args.by c.args.polynomial in
@@ -39,6 +49,15 @@ returns-then-place-len c =
     let left = scaled_term c.args.by c.args.polynomial c.args.place.left c.term.result c.scaled-left.result c.requires.left c.term.ensures.value c.scaled-left.ensures in
     merged_end p q c.args.place.left c.args.place.right (written c.args.out.now) c.requires.short _
     (c.push.ensures ∙ ap (λ m. written c.args.out.now ++ m ∷ []) left) c.requires.left (c.if-place-len.true ∙ c.len.ensures)
+
+pub push-requires-in-Less : goal.push-requires-in-Less
+push-requires-in-Less c =
+    let p = scaled_by c.args.by c.args.polynomial in
+    let q = written c.args.list.now in
+    let left = scaled_term c.args.by c.args.polynomial c.args.place.left c.term.result c.scaled-left.result c.requires.left c.term.ensures.value c.scaled-left.ensures in (
+      omega (arith, c.requires.left, c.requires.right, c.requires.short, c.requires.fits.room),
+      omega (arith, ap (λ m. m.key) left, key_at (2 ^ 63) p c.args.place.left c.requires.fits.keys_left c.requires.left),
+    )
 
 pub returns-in-Less : goal.returns-in-Less
 returns-in-Less c =
@@ -50,6 +69,14 @@ returns-in-Less c =
     merged_left p q c.args.place.left c.args.place.right (written c.args.out.now) c.requires.short _
     (c.push-in-Less.ensures ∙ ap (λ m. written c.args.out.now ++ m ∷ []) left) c.requires.left j
     (omega (arith, ap (λ m. m.key) left, ap (λ m. m.key) c.term-right.ensures, less))
+
+pub push-requires-in-Greater : goal.push-requires-in-Greater
+push-requires-in-Greater c =
+    let q = written c.args.list.now in
+    let j : c.args.place.right < length q = omega (arith, c.len.ensures, c.if-place-len.false, c.requires.right) in (
+      omega (arith, c.requires.left, c.requires.right, c.requires.short, c.requires.fits.room),
+      omega (arith, ap (λ m. m.key) c.term-right.ensures, key_at (2 ^ 63) q c.args.place.right c.requires.fits.keys_right j),
+    )
 
 pub returns-in-Greater : goal.returns-in-Greater
 returns-in-Greater c =
@@ -72,6 +99,7 @@ push_sum-requires c =
     let Small : ℕ → Type 0 = λ n. n < 2 ^ 63 in
     record {
       room = omega (arith, c.requires.left, j, c.requires.short, c.requires.fits.room);
+      key = subst Small (sym (ap (λ m. m.key) left)) f.left_key;
       size = subst Small (ap magnitude (sym (ap₂ ◌+ℤ◌ (ap (λ m. m.times) left) (ap (λ m. m.times) c.term-right.ensures)))) f.size;
     }
 

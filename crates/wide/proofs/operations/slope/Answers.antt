@@ -19,9 +19,12 @@ small key place x h g =
     let low : e ≤ 2 ^ 19 = omega (arith, div-le_self key place) in
     omega (arith, size_product (pos e) x, mul-le-mul_right {m = e} {n = 2 ^ 19} (magnitude x) low)
 
-pub returns-clause-value : goal.returns-clause-value
-returns-clause-value c =
+pub returns : goal.returns
+returns c =
     let k = c.args.term.key in
     let p = c.args.place in
     let x = c.args.term.coefficient in
-    ap (monomial (k - p)) (ap (λ z. to_z w64 (of_z w64 z)) (factors k p x c.requires.key.1 c.requires.size) ∙ from_size (pos (k / p) *ℤ x) (small k p x c.requires.key.1 c.requires.size))
+    record {
+      value = ap (monomial (k - p)) (ap (λ z. to_z w64 (of_z w64 z)) (factors k p x c.requires.key.1 c.requires.size) ∙ from_size (pos (k / p) *ℤ x) (small k p x c.requires.key.1 c.requires.size));
+      bound = omega (arith, c.requires.key.1);
+    }

@@ -1,6 +1,6 @@
 -- Two products are added up.
-use Rattle.std.proofs.Common.{[], refl, ap, ◌∙◌}
-use Rattle.terms.specs.Operations.{add_product}
+use Rattle.std.proofs.Common.{[], refl, ap, ◌∙◌, ap₂}
+use Rattle.terms.specs.Operations.{add_product, neg_terms}
 use Rattle.packed.proofs.Lowered.{view-rising}
 use Rattle.wide.proofs.Rising.{stretch_rising, product-rising, none_rising}
 use Rattle.packed.specs.Terms.{terms_in}
@@ -17,10 +17,15 @@ add_product-requires-2 c =
     one_product (stretch_terms c.leading.result) (terms_in c.args.dividend) _ (stretch_factor c.leading.result) (view-factor c.args.dividend)
     (c.add_product.ensures ∙ ap (add_product (stretch_terms c.leading.result) (terms_in c.args.dividend)) c.clear.ensures)
 
-pub returns-clause-rising : goal.returns-clause-rising
-returns-clause-rising c =
+pub returns : goal.returns
+returns c =
+    let n = c.args.others.count in
     let p = terms_in c.args.divisor in
     let s = terms_in c.args.dividend in
     let first = c.add_product.ensures ∙ ap (add_product (stretch_terms c.leading.result) s) c.clear.ensures in
     let one = product-rising (stretch_terms c.leading.result) s [] _ first (stretch_rising c.leading.result) (view-rising c.args.dividend) (none_rising [] refl) in
-    product-rising (stretch_terms c.negated.result) p _ _ c.add_product-2.ensures (stretch_rising c.negated.result) (view-rising c.args.divisor) one
+    let two = product-rising (stretch_terms c.negated.result) p _ _ c.add_product-2.ensures (stretch_rising c.negated.result) (view-rising c.args.divisor) one in
+    record {
+      value = c.add_product-2.ensures ∙ ap₂ (λ w acc. add_product w p acc) (c.negated.ensures ∙ ap neg_terms c.leading_over.ensures) (first ∙ ap (λ w. add_product w s []) c.leading.ensures);
+      rising = two;
+    }

@@ -10,7 +10,7 @@ use Rattle.wide.proofs.scratch.Scratch.product.Goals as goal
 pub add_product-requires : goal.add_product-requires
 add_product-requires c = none_written _ c.clear.ensures
 
-pub returns-clause-rising : goal.returns-clause-rising
-returns-clause-rising c =
+pub returns : goal.returns
+returns c =
     let e = c.add_product.ensures ∙ ap₂ (λ p acc. add_product p (terms_in c.args.right) acc) c.whole.ensures c.clear.ensures in
-    product-rising (terms_in c.args.left) (terms_in c.args.right) [] _ e (view-rising c.args.left) (view-rising c.args.right) (none_rising [] refl)
+    record { value = e; rising = product-rising (terms_in c.args.left) (terms_in c.args.right) [] _ e (view-rising c.args.left) (view-rising c.args.right) (none_rising [] refl) }
