@@ -69,7 +69,7 @@ def functions():
                 head = []
                 for rest in text[i:]:
                     head.append(rest.strip())
-                    if rest.strip().endswith(";") and not rest.strip().startswith("ensures") or rest.strip() == "{" or rest.rstrip().endswith(" {"):
+                    if rest.strip().endswith(";") and not rest.strip().startswith("ensures") or rest.strip() in ("{", "{}") or rest.rstrip().endswith(" {"):
                         break
                 yield name, i + 1, head
 
