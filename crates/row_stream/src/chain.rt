@@ -14,10 +14,11 @@ use crate::leaving::Gap;
 use crate::signs::{Signs, front};
 use crate::sink::Sink;
 use crate::stage::Stage;
-use crate::taken::{Taken, entry_row, take_end, take_row};
+use crate::taken::Taken;
 use field::sign::Sign;
 
 // What a table makes its rows by, and what it keeps between two of them.
+// That the stages stay is a clause of each function: no ghost field can name the stages before a call.
 #[derive(Clone, Copy)]
 pub struct Table {
     pub stage: Stage,
@@ -35,10 +36,10 @@ pub fn push<S: Sink>(tables: &mut [Table], sink: &mut S, row: &Signs) -> Result<
         sink.take(row.view());
         return Ok(());
     };
-    let taken = take_row(&table.stage, table.cell, row)?;
+    let taken = table.cell.take_row(&table.stage, row)?;
     table.cell = taken.cell;
-    let x = front(row.view(), table.stage.divisors);
-    give(&table.stage, outer, sink, &taken, x)
+    let others = front(row.view(), table.stage.divisors);
+    give(&table.stage, outer, sink, &taken, others)
 }
 
 // The rows that leave a table are pushed into the next one.
@@ -49,13 +50,13 @@ fn give<S: Sink>(
     tables: &mut [Table],
     sink: &mut S,
     taken: &Taken,
-    x: &[Sign],
+    at_point: &[Sign],
 ) -> Result<(), Gap>
     ensures stages { stages_of tables.new ≡ stages_of tables.old }
-    ensures rows { pushed_all (pushed S.Sink.grown (stages_of tables.old)) (cells_of tables.old) sink.old (leaving_rows (stage_of stage.now) x.now taken.now) ≡ reached result (cells_of tables.new) sink.new }
+    ensures rows { pushed_all (pushed S.Sink.grown (stages_of tables.old)) (cells_of tables.old) sink.old (leaving_rows (stage_of stage.now) at_point.now taken.now) ≡ reached result (cells_of tables.new) sink.new }
 {
     for entry in taken.leaving.view() {
-        let row = entry_row(stage, *entry, taken.held.view(), x);
+        let row = stage.entry_row(*entry, taken.held.view(), at_point);
         push(tables, sink, &row)?;
     }
     Ok(())
@@ -70,7 +71,7 @@ pub fn close<S: Sink>(tables: &mut [Table], sink: &mut S) -> Result<(), Gap>
     let Some((table, outer)) = tables.split_first_mut() else {
         return Ok(());
     };
-    let taken = take_end(table.cell)?;
+    let taken = table.cell.take_end()?;
     give(&table.stage, outer, sink, &taken, taken.held.view())?;
     close(outer, sink)
 }

@@ -18,6 +18,6 @@ abbrev pub invariant-give-loop-entry : goal.invariant-give-loop-entry
 invariant-give-loop-entry g l = record {
   same_stages : stages_of l.tables ≡ stages_of l.initial.tables;
   same_rows :
-      pushed_all (pushed g.S.Sink.grown (stages_of l.initial.tables)) (cells_of l.initial.tables) l.initial.sink (leaving_rows (stage_of l.stage) l.x l.taken) ≡
-      pushed_all (pushed g.S.Sink.grown (stages_of l.initial.tables)) (cells_of l.tables) l.sink (entry_rows (stage_of l.stage) (signs_of l.taken.held) l.x (drop l.entry-index (entries_of l.taken.leaving)));
+      pushed_all (pushed g.S.Sink.grown (stages_of l.initial.tables)) (cells_of l.initial.tables) l.initial.sink (leaving_rows (stage_of l.stage) l.at_point l.taken) ≡
+      pushed_all (pushed g.S.Sink.grown (stages_of l.initial.tables)) (cells_of l.tables) l.sink (entry_rows (stage_of l.stage) (signs_of l.taken.held) l.at_point (drop l.entry-index (entries_of l.taken.leaving)));
 }
