@@ -10,11 +10,10 @@ ghost use Rattle.row_stream.specs.Taken.{leaving_rows};
 ghost use Rattle.row_stream.specs.Reached.{reached, ended};
 
 use crate::cell::{Cell, Side};
-use crate::leaving::Gap;
+use crate::leaving::{Gap, Leaving};
 use crate::signs::{Signs, front};
 use crate::sink::Sink;
 use crate::stage::Stage;
-use crate::taken::Taken;
 use field::sign::Sign;
 
 // What a table makes its rows by, and what it keeps between two of them.
@@ -37,9 +36,17 @@ pub fn push<S: Sink>(tables: &mut [Table], sink: &mut S, row: &Signs) -> Result<
         return Ok(());
     };
     let taken = table.cell.take_row(&table.stage, row)?;
+    let before = table.cell;
     table.cell = taken.cell;
     let others = front(row.view(), table.stage.divisors);
-    give(&table.stage, outer, sink, &taken, others)
+    give(
+        &table.stage,
+        outer,
+        sink,
+        &taken.leaving,
+        before.held(),
+        others,
+    )
 }
 
 // The rows that leave a table are pushed into the next one.
@@ -49,14 +56,15 @@ fn give<S: Sink>(
     stage: &Stage,
     tables: &mut [Table],
     sink: &mut S,
-    taken: &Taken,
+    leaving: &Leaving,
+    on_interval: &[Sign],
     at_point: &[Sign],
 ) -> Result<(), Gap>
     ensures stages { stages_of tables.new ≡ stages_of tables.old }
-    ensures rows { pushed_all (pushed S.Sink.grown (stages_of tables.old)) (cells_of tables.old) sink.old (leaving_rows (stage_of stage.now) at_point.now taken.now) ≡ reached result (cells_of tables.new) sink.new }
+    ensures rows { pushed_all (pushed S.Sink.grown (stages_of tables.old)) (cells_of tables.old) sink.old (leaving_rows (stage_of stage.now) on_interval.now at_point.now leaving.now) ≡ reached result (cells_of tables.new) sink.new }
 {
-    for entry in taken.leaving.view() {
-        let row = stage.entry_row(*entry, taken.held.view(), at_point);
+    for entry in leaving.view() {
+        let row = stage.entry_row(*entry, on_interval, at_point);
         push(tables, sink, &row)?;
     }
     Ok(())
@@ -71,8 +79,9 @@ pub fn close<S: Sink>(tables: &mut [Table], sink: &mut S) -> Result<(), Gap>
     let Some((table, outer)) = tables.split_first_mut() else {
         return Ok(());
     };
-    let taken = table.cell.take_end()?;
-    give(&table.stage, outer, sink, &taken, taken.held.view())?;
+    let leaving = table.cell.take_end()?;
+    let held = table.cell.held();
+    give(&table.stage, outer, sink, &leaving, held, held)?;
     close(outer, sink)
 }
 
