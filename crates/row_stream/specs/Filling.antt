@@ -1,4 +1,4 @@
--- How a plan is filled, place by place. Assumes nothing.
+-- What a stage stands for. Assumes nothing.
 use Rattle.std.specs.Prelude.{List, Option}
 use Rattle.field.specs.declared.sign.Sign.{Sign}
 use Rattle.stream.specs.Stage.{Stage as TableStage}

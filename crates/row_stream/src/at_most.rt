@@ -2,7 +2,7 @@
 ghost use Rattle.std.specs.Prelude.{◌≡◌, ◌≤◌, length};
 ghost use Rattle.row_stream.specs.AtMost.{values_of};
 
-// An array with a count, which is Copy and needs no heap.
+// arrayvec::ArrayVec isn't Copy, and what holds it here is.
 #[derive(Clone, Copy)]
 pub struct AtMost<T, const N: usize> {
     pub items: [T; N],

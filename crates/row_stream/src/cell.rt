@@ -2,7 +2,7 @@
 ghost use Rattle.std.specs.Prelude.{◌≡◌};
 ghost use Rattle.stream.specs.Step.{left_end};
 ghost use Rattle.row_stream.specs.Known.{known_of};
-ghost use Rattle.row_stream.specs.Cells.{side_of};
+ghost use Rattle.row_stream.specs.Cells.{side_of, held_of};
 
 use crate::looks::first_sign;
 use crate::signs::Signs;
@@ -33,4 +33,16 @@ impl Side {
 pub struct Cell {
     pub side: Side,
     pub held: Option<Signs>,
+}
+
+impl Cell {
+    // The others' signs on the interval; no sign where none is held.
+    pub fn held(&self) -> &[Sign]
+        ensures { result.now ≡ held_of self.now }
+    {
+        match &self.held {
+            Some(held) => held.view(),
+            None => &[],
+        }
+    }
 }

@@ -10,14 +10,14 @@ ghost use Rattle.row_stream.specs.Taken.{leaving_rows};
 ghost use Rattle.row_stream.specs.Reached.{reached, ended};
 
 use crate::cell::{Cell, Side};
-use crate::leaving::Gap;
+use crate::leaving::{Gap, Leaving};
 use crate::signs::{Signs, front};
 use crate::sink::Sink;
 use crate::stage::Stage;
-use crate::taken::{Taken, entry_row, take_end, take_row};
 use field::sign::Sign;
 
 // What a table makes its rows by, and what it keeps between two of them.
+// That the stages stay is a clause of each function: no ghost field can name the stages before a call.
 #[derive(Clone, Copy)]
 pub struct Table {
     pub stage: Stage,
@@ -35,10 +35,18 @@ pub fn push<S: Sink>(tables: &mut [Table], sink: &mut S, row: &Signs) -> Result<
         sink.take(row.view());
         return Ok(());
     };
-    let taken = take_row(&table.stage, table.cell, row)?;
+    let taken = table.cell.take_row(&table.stage, row)?;
+    let before = table.cell;
     table.cell = taken.cell;
-    let x = front(row.view(), table.stage.divisors);
-    give(&table.stage, outer, sink, &taken, x)
+    let others = front(row.view(), table.stage.divisors);
+    give(
+        &table.stage,
+        outer,
+        sink,
+        &taken.leaving,
+        before.held(),
+        others,
+    )
 }
 
 // The rows that leave a table are pushed into the next one.
@@ -48,14 +56,15 @@ fn give<S: Sink>(
     stage: &Stage,
     tables: &mut [Table],
     sink: &mut S,
-    taken: &Taken,
-    x: &[Sign],
+    leaving: &Leaving,
+    on_interval: &[Sign],
+    at_point: &[Sign],
 ) -> Result<(), Gap>
     ensures stages { stages_of tables.new ≡ stages_of tables.old }
-    ensures rows { pushed_all (pushed S.Sink.grown (stages_of tables.old)) (cells_of tables.old) sink.old (leaving_rows (stage_of stage.now) x.now taken.now) ≡ reached result (cells_of tables.new) sink.new }
+    ensures rows { pushed_all (pushed S.Sink.grown (stages_of tables.old)) (cells_of tables.old) sink.old (leaving_rows (stage_of stage.now) on_interval.now at_point.now leaving.now) ≡ reached result (cells_of tables.new) sink.new }
 {
-    for entry in taken.leaving.view() {
-        let row = entry_row(stage, *entry, taken.held.view(), x);
+    for entry in leaving.view() {
+        let row = stage.entry_row(*entry, on_interval, at_point);
         push(tables, sink, &row)?;
     }
     Ok(())
@@ -70,8 +79,9 @@ pub fn close<S: Sink>(tables: &mut [Table], sink: &mut S) -> Result<(), Gap>
     let Some((table, outer)) = tables.split_first_mut() else {
         return Ok(());
     };
-    let taken = take_end(table.cell)?;
-    give(&table.stage, outer, sink, &taken, taken.held.view())?;
+    let leaving = table.cell.take_end()?;
+    let held = table.cell.held();
+    give(&table.stage, outer, sink, &leaving, held, held)?;
     close(outer, sink)
 }
 

@@ -48,13 +48,13 @@ fn crossing(s: Sign) -> [Entry; 3]
 }
 
 // What leaves when a point comes.
-pub fn until_point(way: Way, p: Option<Sign>, stays: bool) -> Result<Leaving, Gap>
+pub fn until_point(way: Option<Way>, p: Option<Sign>, stays: bool) -> Result<Leaving, Gap>
     ensures { leaving_of result ≡ entries_to_point way (known_of p) stays }
 {
     let point = Entry::Point(p.unwrap_or(Sign::Zero));
     match way {
-        Way::Stays(s) if stays => Ok(leaving(&[Entry::Interval(s), point])),
-        Way::Crosses(s) => {
+        Some(Way::Stays(s)) if stays => Ok(leaving(&[Entry::Interval(s), point])),
+        Some(Way::Crosses(s)) => {
             let [before, root, behind] = crossing(s);
             Ok(if stays {
                 leaving(&[before, root, behind, point])
@@ -62,18 +62,17 @@ pub fn until_point(way: Way, p: Option<Sign>, stays: bool) -> Result<Leaving, Ga
                 leaving(&[before, root])
             })
         }
-        Way::Lost if stays => Err(Gap),
-        Way::Stays(_) | Way::Lost => Ok(nothing()),
+        None if stays => Err(Gap),
+        Some(Way::Stays(_)) | None => Ok(nothing()),
     }
 }
 
 // What leaves at the end.
-pub fn until_end(way: Way) -> Result<Leaving, Gap>
+pub fn until_end(way: Option<Way>) -> Result<Leaving, Gap>
     ensures { leaving_of result ≡ entries_to_end way }
 {
-    match way {
+    match way.ok_or(Gap)? {
         Way::Stays(s) => Ok(leaving(&[Entry::Interval(s)])),
         Way::Crosses(s) => Ok(leaving(&crossing(s))),
-        Way::Lost => Err(Gap),
     }
 }

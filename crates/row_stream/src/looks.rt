@@ -33,19 +33,15 @@ pub fn without_first(signs: &[Sign]) -> &[Sign]
     signs.get(1..).unwrap_or(&[])
 }
 
-// How p goes along an interval, from its signs at the two ends.
-pub fn way_between(left: Option<Sign>, right: Option<Sign>) -> Way
+// How p goes along an interval, from its signs at the two ends, if these say it.
+pub fn way_between(left: Option<Sign>, right: Option<Sign>) -> Option<Way>
     ensures { result ≡ way_between (known_of left) (known_of right) }
 {
-    match (left, right) {
-        (Some(Sign::Neg), Some(Sign::Neg | Sign::Zero)) => Way::Stays(Sign::Neg),
-        (Some(Sign::Neg), Some(Sign::Pos)) => Way::Crosses(Sign::Neg),
-        (Some(Sign::Zero), Some(Sign::Neg)) => Way::Stays(Sign::Neg),
-        (Some(Sign::Zero), Some(Sign::Zero)) => Way::Lost,
-        (Some(Sign::Zero), Some(Sign::Pos)) => Way::Stays(Sign::Pos),
-        (Some(Sign::Pos), Some(Sign::Neg)) => Way::Crosses(Sign::Pos),
-        (Some(Sign::Pos), Some(Sign::Zero | Sign::Pos)) => Way::Stays(Sign::Pos),
-        (Some(_), None) | (None, _) => Way::Lost,
+    match (left?, right?) {
+        (Sign::Zero, Sign::Zero) => None,
+        (Sign::Zero, s) | (s, Sign::Zero) => Some(Way::Stays(s)),
+        (from, to) if from == to => Some(Way::Stays(from)),
+        (from, _) => Some(Way::Crosses(from)),
     }
 }
 

@@ -1,19 +1,21 @@
-// A row of at most 63 signs, and the parts of one.
+// A row of signs, and the parts of one.
 ghost use Rattle.std.specs.Prelude.{◌≡◌, take, drop};
 
 use crate::at_most::AtMost;
 use field::sign::Sign;
 
-pub type Signs = AtMost<Sign, 63>;
+pub const MAX_SIGNS: usize = 63;
 
-pub fn front(row: &[Sign], l: usize) -> &[Sign]
-    ensures { result.now ≡ take l row.now }
+pub type Signs = AtMost<Sign, MAX_SIGNS>;
+
+pub fn front(row: &[Sign], count: usize) -> &[Sign]
+    ensures { result.now ≡ take count row.now }
 {
-    row.get(..l).unwrap_or(row)
+    row.get(..count).unwrap_or(row)
 }
 
-pub fn back(row: &[Sign], l: usize) -> &[Sign]
-    ensures { result.now ≡ drop l row.now }
+pub fn back(row: &[Sign], count: usize) -> &[Sign]
+    ensures { result.now ≡ drop count row.now }
 {
-    row.get(l..).unwrap_or(&[])
+    row.get(count..).unwrap_or(&[])
 }

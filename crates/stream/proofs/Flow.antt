@@ -3,6 +3,7 @@ use mathlib.Core.Path.{◌≡◌, refl, sym, ◌∙◌, ap}
 use mathlib.Core.Bool.{Bool, true, false, cond}
 use mathlib.Core.List.{List, [], ◌∷◌, ◌++◌, map}
 use lib.ListN.{take, drop}
+use Rattle.std.specs.Prelude.{Option, Some, None}
 use Rattle.field.specs.declared.sign.Sign.{Sign}
 use Rattle.field.specs.declared.sign.Sign.TheVariants.{Zero}
 use Rattle.field.specs.Sign.{flip}
@@ -10,7 +11,7 @@ use Rattle.sign_table.specs.Facts.{Known, Unknown, Is}
 use Rattle.sign_table.specs.Deduce.{Row, rows_of, row_of, at_root, any_zero, kept_if, condensed_by, condensed, intervals, between, first_sign, without_first_sign, far_left, row_is, row_unknown, dropped, condensed_all, all_known, insert_at, inserted}
 use Rattle.stream.specs.Stage.{Stage, filled_by, Outcome, Gap, Went, upon, went_if, table_rows}
 use Rattle.stream.specs.declared.way.Way.{Way}
-use Rattle.stream.specs.declared.way.Way.TheVariants.{Stays, Crosses, Lost}
+use Rattle.stream.specs.declared.way.Way.TheVariants.{Stays, Crosses}
 use Rattle.stream.specs.Step.{way_between, Side, Far, After, Clear, left_end, point_stays, until_point, until_end, point_taken, stepped, closing, flow}
 use Rattle.stream.proofs.Outcome.{upon_went, upon-upon, upon_if}
 use Rattle.stream.proofs.Along.{along, between_along, lost_unknown}
@@ -36,11 +37,11 @@ module _ (f : Stage) where
   given_after : (out : List (List Sign)) (ws : List Row) → upon (rows_given f ws) (λ rows. Went (out ++ rows)) ≡ went_if (all_known ws) (out ++ map (filled_by f.plan) (inserted f.place ws))
   given_after out ws = upon_if (all_known ws) (map (filled_by f.plan) (inserted f.place ws)) (λ rows. out ++ rows)
 
-  last-interval : (w : Way) (o : List Sign) → until_end f w o ≡ rows_given f (condensed_all (dropped (along w o [])))
+  last-interval : (w : Option Way) (o : List Sign) → until_end f w o ≡ rows_given f (condensed_all (dropped (along w o [])))
   unfolding all_known condensed_by
-  last-interval (Stays s) o = refl
-  last-interval (Crosses s) o = refl
-  last-interval Lost o = refl
+  last-interval (Some (Stays s)) o = refl
+  last-interval (Some (Crosses s)) o = refl
+  last-interval None o = refl
 
   -- what leaves, then the rows of ws
   abbrev before_rows : List Row → List (List Sign) → Outcome (List (List Sign))
@@ -69,20 +70,20 @@ module _ (f : Stage) where
   crosses_if false s t o x ws = given_after (row_out s o ∷ row_out Zero o ∷ []) ws
 
   -- an interval along which p goes this way, the point after it, and then the rows R
-  PairGiven : Way → List Sign → Known → List Sign → List Row → Type 0
+  PairGiven : Option Way → List Sign → Known → List Sign → List Row → Type 0
   PairGiven w o p x R =
       upon (until_point f w o p x) (before_rows (condensed_all (dropped R))) ≡
       rows_given f (condensed_all (dropped (along w o (record { this = p; others = x } ∷ R))))
 
-  pair_lost : (o : List Sign) (p : Known) (x : List Sign) (R : List Row) → PairGiven Lost o p x R
+  pair_lost : (o : List Sign) (p : Known) (x : List Sign) (R : List Row) → PairGiven None o p x R
   unfolding PairGiven condensed_by
   pair_lost o p x R = lost_if (point_stays p x) (without_first_sign o) (record { this = p; others = without_first_sign x }) (condensed_all (dropped R))
 
-  pair_known : (w : Way) (o : List Sign) (t : Sign) (x : List Sign) (R : List Row) → PairGiven w o (Is t) x R
+  pair_known : (w : Option Way) (o : List Sign) (t : Sign) (x : List Sign) (R : List Row) → PairGiven w o (Is t) x R
   unfolding PairGiven condensed_by
-  pair_known (Stays s) o t x R = stays_if (point_stays (Is t) x) s t (without_first_sign o) (without_first_sign x) (condensed_all (dropped R))
-  pair_known (Crosses s) o t x R = crosses_if (point_stays (Is t) x) s t (without_first_sign o) (without_first_sign x) (condensed_all (dropped R))
-  pair_known Lost o t x R = pair_lost o (Is t) x R
+  pair_known (Some (Stays s)) o t x R = stays_if (point_stays (Is t) x) s t (without_first_sign o) (without_first_sign x) (condensed_all (dropped R))
+  pair_known (Some (Crosses s)) o t x R = crosses_if (point_stays (Is t) x) s t (without_first_sign o) (without_first_sign x) (condensed_all (dropped R))
+  pair_known None o t x R = pair_lost o (Is t) x R
 
   pair_given : (left : Known) (o : List Sign) (p : Known) (x : List Sign) (R : List Row) → PairGiven (way_between left p) o p x R
   pair_given left o (Is t) x R = pair_known (way_between left (Is t)) o t x R
@@ -98,7 +99,7 @@ module _ (f : Stage) where
   point_given true side q o p x m rs ih =
       let i : Row = record { this = q; others = o } in
       let e : Row = record { this = p; others = x } in
-      let w : Way = way_between (left_end side o) p in
+      let w : Option Way = way_between (left_end side o) p in
       upon-upon (until_point f w o p x) (λ out. Went (record { cell = Clear (After p); leaving = out })) (λ s. upon (flow f s.cell m) (λ rows. Went (s.leaving ++ rows)))
       ∙ ap (λ r. upon (until_point f w o p x) (λ out. upon r (λ rows. Went (out ++ rows)))) (ih (After p))
       ∙ pair_given (left_end side o) o p x (intervals p rs)

@@ -1,28 +1,28 @@
 -- A table takes the rows of the table within it one by one, and hands on its own rows as soon as they are known. Assumes nothing.
-use Rattle.std.specs.Prelude.{Bool, true, false, cond, ◌||◌, List, [], ◌∷◌, ◌++◌, take, drop}
+use Rattle.std.specs.Prelude.{Bool, true, false, cond, ◌||◌, List, [], ◌∷◌, ◌++◌, take, drop, Option, Some, None}
 use Rattle.field.specs.declared.sign.Sign.{Sign}
 use Rattle.field.specs.declared.sign.Sign.TheVariants.{Neg, Zero, Pos}
 use Rattle.field.specs.Sign.{flip}
 use Rattle.sign_table.specs.Facts.{Known, Unknown, Is}
 use Rattle.sign_table.specs.Deduce.{any_zero, at_root, first_sign, without_first_sign, known_zero, insert_at, the_sign}
 use Rattle.stream.specs.declared.way.Way.{Way}
-use Rattle.stream.specs.declared.way.Way.TheVariants.{Stays, Crosses, Lost}
+use Rattle.stream.specs.declared.way.Way.TheVariants.{Stays, Crosses}
 use Rattle.stream.specs.Stage.{Stage, filled_by, Outcome, Gap, Went, upon}
 
--- how p goes along an interval on which its derivative isn't zero, from its signs at the two ends
-abbrev pub way_between : Known → Known → Way
-way_between (Is Neg) (Is Neg) = Stays Neg
-way_between (Is Neg) (Is Zero) = Stays Neg
-way_between (Is Neg) (Is Pos) = Crosses Neg
-way_between (Is Zero) (Is Neg) = Stays Neg
-way_between (Is Zero) (Is Zero) = Lost
-way_between (Is Zero) (Is Pos) = Stays Pos
-way_between (Is Pos) (Is Neg) = Crosses Pos
-way_between (Is Pos) (Is Zero) = Stays Pos
-way_between (Is Pos) (Is Pos) = Stays Pos
-way_between (Is s) Unknown = Lost
-way_between Unknown (Is s) = Lost
-way_between Unknown Unknown = Lost
+-- how p goes along an interval on which its derivative isn't zero, from its signs at the two ends; none: that isn't known
+abbrev pub way_between : Known → Known → Option Way
+way_between (Is Neg) (Is Neg) = Some (Stays Neg)
+way_between (Is Neg) (Is Zero) = Some (Stays Neg)
+way_between (Is Neg) (Is Pos) = Some (Crosses Neg)
+way_between (Is Zero) (Is Neg) = Some (Stays Neg)
+way_between (Is Zero) (Is Zero) = None
+way_between (Is Zero) (Is Pos) = Some (Stays Pos)
+way_between (Is Pos) (Is Neg) = Some (Crosses Pos)
+way_between (Is Pos) (Is Zero) = Some (Stays Pos)
+way_between (Is Pos) (Is Pos) = Some (Stays Pos)
+way_between (Is s) Unknown = None
+way_between Unknown (Is s) = None
+way_between Unknown Unknown = None
 
 -- what lies left of an interval: no point that stays, or one, with p's sign there
 pub data Side : Type 0 where
@@ -48,17 +48,17 @@ abbrev pub point_stays : Known → List Sign → Bool
 point_stays p x = known_zero p || any_zero (without_first_sign x)
 
 -- the rows of an interval, where the others' signs are o, and of the point after it, where p's and theirs are p and x
-abbrev pub until_point : Stage → Way → List Sign → Known → List Sign → Outcome (List (List Sign))
-until_point f (Stays s) o p x = Went (cond (point_stays p x) (handed_on f s o ∷ handed_on f (the_sign p) x ∷ []) [])
-until_point f (Crosses s) o p x =
+abbrev pub until_point : Stage → Option Way → List Sign → Known → List Sign → Outcome (List (List Sign))
+until_point f (Some (Stays s)) o p x = Went (cond (point_stays p x) (handed_on f s o ∷ handed_on f (the_sign p) x ∷ []) [])
+until_point f (Some (Crosses s)) o p x =
     Went (handed_on f s o ∷ handed_on f Zero o ∷ cond (point_stays p x) (handed_on f (flip s) o ∷ handed_on f (the_sign p) x ∷ []) [])
-until_point f Lost o p x = cond (point_stays p x) Gap (Went [])
+until_point f None o p x = cond (point_stays p x) Gap (Went [])
 
 -- the rows of the last interval
-abbrev pub until_end : Stage → Way → List Sign → Outcome (List (List Sign))
-until_end f (Stays s) o = Went (handed_on f s o ∷ [])
-until_end f (Crosses s) o = Went (handed_on f s o ∷ handed_on f Zero o ∷ handed_on f (flip s) o ∷ [])
-until_end f Lost o = Gap
+abbrev pub until_end : Stage → Option Way → List Sign → Outcome (List (List Sign))
+until_end f (Some (Stays s)) o = Went (handed_on f s o ∷ [])
+until_end f (Some (Crosses s)) o = Went (handed_on f s o ∷ handed_on f Zero o ∷ handed_on f (flip s) o ∷ [])
+until_end f None o = Gap
 
 -- what is kept, and the rows that leave
 pub record Stepped : Type 0 where

@@ -1,10 +1,9 @@
 // How a polynomial goes along an interval on which its derivative isn't zero.
 use field::sign::Sign;
 
-// With one sign; from this sign through a root to the opposite one; or that isn't known.
+// With one sign; or from this sign through a root to the opposite one.
 #[derive(Clone, Copy, PartialEq, Eq, Debug)]
 pub enum Way {
     Stays(Sign),
     Crosses(Sign),
-    Lost,
 }

@@ -15,7 +15,7 @@ returns-clause-rows g t c =
     let kept = cells_of c.give.new.tables in
     ap (λ ts. closed g.S.Sink.grown (stages_of ts) (cells_of ts) c.args.sink.now) c.in-Some.ensures.cases.0
     ∙ end_given g.S.Sink.grown (stage_of c.in-Some.table.now.stage) outer (cell_of c.in-Some.table.now.cell) (cells_of c.in-Some.outer.now) c.args.sink.now _ _
-    (c.in_ok-taken.ensures (stage_of c.in-Some.table.now.stage)) (rw c.view.ensures.values at c.give.ensures.rows)
+    (c.in_ok-leaving.ensures (stage_of c.in-Some.table.now.stage)) (rw c.held-held.ensures at c.give.ensures.rows)
     ∙ ap (λ r. upon (reached r kept c.give.new.sink) (λ s. closed g.S.Sink.grown outer s.cells s.sink)) c.in_ok-give.was
     ∙ ap (λ fs. closed g.S.Sink.grown fs kept c.give.new.sink) (sym c.give.ensures.stages)
     ∙ c.close.ensures.rows

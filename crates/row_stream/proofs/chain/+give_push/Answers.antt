@@ -10,7 +10,7 @@ use Rattle.row_stream.proofs.chain.+give_push.Goals as goal
 
 pub push-returns-clause-rows : goal.push-returns-clause-rows
 push-returns-clause-rows g t c =
-    let x = rw c.view-2.ensures.values at c.front-x.ensures in
+    let x = rw c.view-2.ensures.values at c.front-others.ensures in
     ap (λ ts. pushed g.S.Sink.grown (stages_of ts) (cells_of ts) c.args.sink.now (signs_of c.args.row.now)) c.in-Some.ensures.cases.0
     ∙ table_gives g.S.Sink.grown (stage_of c.in-Some.table.now.stage) (stages_of c.in-Some.outer.now) (cell_of c.in-Some.table.now.cell) (cells_of c.in-Some.outer.now) c.args.sink.now _
-    (signs_of c.args.row.now) (cell_of c.in_ok-taken.taken.cell) (cells_of c.give.new.tables) c.give.new.sink c.give.result (rw (← x) at c.in_ok-taken.ensures) c.give.ensures.rows
+    (signs_of c.args.row.now) (cell_of c.in_ok-taken.taken.cell) (cells_of c.give.new.tables) c.give.new.sink c.give.result (rw (← x) at c.in_ok-taken.ensures) (rw c.held.ensures at c.give.ensures.rows)

@@ -1,7 +1,6 @@
 -- A push gives to fewer tables; the rows pushed so far, and then those that are left, come to the same as all of them.
 use Rattle.std.proofs.Common.{◌≡◌, ◌+◌, ◌*◌, length, drop}
 use Rattle.stream.specs.Chain.{pushed, pushed_all}
-use Rattle.row_stream.specs.Signs.{signs_of}
 use Rattle.row_stream.specs.Filling.{stage_of}
 use Rattle.row_stream.specs.Tables.{stages_of, cells_of}
 use Rattle.row_stream.specs.Leaving.{entries_of, entry_rows}
@@ -18,6 +17,6 @@ abbrev pub invariant-give-loop-entry : goal.invariant-give-loop-entry
 invariant-give-loop-entry g l = record {
   same_stages : stages_of l.tables ≡ stages_of l.initial.tables;
   same_rows :
-      pushed_all (pushed g.S.Sink.grown (stages_of l.initial.tables)) (cells_of l.initial.tables) l.initial.sink (leaving_rows (stage_of l.stage) l.x l.taken) ≡
-      pushed_all (pushed g.S.Sink.grown (stages_of l.initial.tables)) (cells_of l.tables) l.sink (entry_rows (stage_of l.stage) (signs_of l.taken.held) l.x (drop l.entry-index (entries_of l.taken.leaving)));
+      pushed_all (pushed g.S.Sink.grown (stages_of l.initial.tables)) (cells_of l.initial.tables) l.initial.sink (leaving_rows (stage_of l.stage) l.on_interval l.at_point l.leaving) ≡
+      pushed_all (pushed g.S.Sink.grown (stages_of l.initial.tables)) (cells_of l.tables) l.sink (entry_rows (stage_of l.stage) l.on_interval l.at_point (drop l.entry-index (entries_of l.leaving)));
 }
