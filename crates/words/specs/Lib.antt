@@ -1,4 +1,5 @@
 -- What a slice of words reads as.
+pub mod Joined
 pub mod Kind
 pub mod Reading
 pub mod Words

@@ -1,8 +1,8 @@
-// Whether a tree is asked to hold in some row, or in every one.
+// Whether something is asked to hold in some case or in every one, and the answer over all of them.
 ghost use Rattle.std.specs.Prelude.{◌≡◌};
-ghost use Rattle.row_stream.specs.Joined.{join_of, before_of, settled_of};
+ghost use Rattle.words.specs.Joined.{before_of, join_of, settled_of};
 
-use words::answer::Answer;
+use crate::answer::Answer;
 
 #[derive(Clone, Copy, PartialEq, Eq, Debug)]
 pub enum Quantifier {
@@ -11,7 +11,7 @@ pub enum Quantifier {
 }
 
 impl Quantifier {
-    // The answer before the first row.
+    // The answer before the first case.
     pub fn first_answer(self) -> Answer
         ensures { result ≡ before_of self }
     {
@@ -21,7 +21,7 @@ impl Quantifier {
         }
     }
 
-    // The answer so far, with one more row's.
+    // The answer so far, with one more case's.
     pub fn join(self, a: Answer, b: Answer) -> Answer
         ensures { result ≡ join_of self a b }
     {
@@ -32,7 +32,7 @@ impl Quantifier {
         }
     }
 
-    // No further row changes the answer.
+    // No further case changes the answer.
     pub fn is_settled(self, a: Answer) -> bool
         ensures { result ≡ settled_of self a }
     {
