@@ -16,7 +16,8 @@ use Rattle.row_stream.specs.declared.leaving.Gap.{Gap as RowGap}
 use Rattle.words.specs.declared.quantifier.Quantifier.{Quantifier}
 use Rattle.words.specs.declared.quantifier.Quantifier.TheVariants.{Exists, ForAll}
 use Rattle.row_stream.specs.declared.tally.Tally.{Tally}
-use Rattle.words.specs.Joined.{over_all, before_of, join_of}
+use Rattle.words.specs.Joined.{before_of, join_of}
+use Rattle.words.specs.Quantifier.{over_all}
 use Rattle.row_stream.specs.Joined.{tree_of}
 use Rattle.row_stream.specs.Reached.{ended}
 

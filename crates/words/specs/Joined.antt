@@ -1,14 +1,9 @@
--- Quantifiers, and answers joined under them. Assumes nothing.
+-- Answers joined under a quantifier. Assumes nothing.
 use Rattle.std.specs.Prelude.{Bool, true, false}
 use Rattle.words.specs.declared.answer.Answer.{Answer}
 use Rattle.words.specs.declared.answer.Answer.TheVariants.{Yes, No, GivenUp}
 use Rattle.words.specs.declared.quantifier.Quantifier.{Quantifier}
 use Rattle.words.specs.declared.quantifier.Quantifier.TheVariants.{Exists, ForAll}
-
--- to "every", and not to "some"
-abbrev pub over_all : Quantifier → Bool
-over_all Exists = false
-over_all ForAll = true
 
 abbrev pub before_of : Quantifier → Answer
 before_of ForAll = Yes
