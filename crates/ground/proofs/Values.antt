@@ -1,14 +1,16 @@
 -- The number of a term and the outline of a formula, a kind at a time, from those of the parts.
-use Rattle.std.proofs.Common.{◌≡◌, cond, List, [], ◌∷◌, ℤ, pos, negsuc, ◌+ℤ◌, ◌*ℤ◌, Some, None, refl, ap}
+use Rattle.std.proofs.Common.{◌≡◌, ℕ, ◌-◌, cond, List, [], ◌∷◌, ℤ, pos, negsuc, ◌+ℤ◌, ◌*ℤ◌, Some, None, refl, ap}
 use lib.Dec.{leb-suc-zero}
 use Rattle.field.specs.Sentence.{Term, Num, Sum, Product, Formula, BelowZero, EqualsZero, Not, And, Or}
 use Rattle.words.specs.declared.kind.Kind.{Kind}
 use Rattle.words.specs.Reading.{Reading, Refused, Read, mapped, two, meant, if_some}
-use Rattle.words.specs.Words.{term_by, formula_by, variable_of}
+use Rattle.words.specs.Kind.{kind_of}
+use Rattle.words.specs.Words.{term_at, term_by, formula_at, formula_by, variable_of}
 use Rattle.words.specs.Words as words
-use Rattle.words.proofs.Words.{term_none, term_open, formula_none, formula_open, mapped-two}
+use Rattle.words.proofs.Words.{term_none, term_open, formula_none, formula_open, formula_of_kind, mapped-two}
 use Rattle.words.specs.declared.answer.Answer.TheVariants.{Yes, No}
 use Rattle.ground.specs.Ground.{modest, on_both, number_of}
+use Rattle.ground.specs.declared.outline.Outline.{Outline}
 use Rattle.ground.specs.Outline.{outline_of, compared, negated, conjoined}
 
 mapped-mapped : {A B C : Type 0} (h : B → C) (g : A → B) (k : A → C) → ((a : A) → h (g a) ≡ k a) → (m : Reading A) → mapped h (mapped g m) ≡ mapped k m
@@ -66,6 +68,12 @@ module _ (term : List ℤ → Reading Term) (go : List ℤ → Reading Formula) 
   pub or_outline : mapped outline_of (formula_by term go Kind.Or zs) ≡ two (λ p q. negated (conjoined (negated p) (negated q))) (λ ws. mapped outline_of (go ws)) zs
   unfolding outline_of
   or_outline = mapped-two outline_of outline_of Or (λ p q. negated (conjoined (negated p) (negated q))) (λ p q. refl) go zs
+
+-- the outline that a formula reads as, once its kind is known
+pub outline_by_kind : (d : ℕ) (zs rest more : List ℤ) (k kind : Kind) (made o : Outline) → (d ≡ 0 → ⊥) → Read k rest ≡ meant kind_of zs → k ≡ kind → made ≡ o →
+    Read o more ≡ mapped outline_of (formula_by (term_at (d - 1) 0) (formula_at (d - 1) 0) kind rest) → Read made more ≡ mapped outline_of (formula_at d 0 zs)
+outline_by_kind d zs rest more k kind made o deep e is h by =
+    rw (formula_of_kind d 0 zs rest k deep e, is, ← by) (ap (λ v. Read v more) h)
 
 -- the level below, with its numbers
 pub ruleset term_steps = (term_none, term_open, number-number, sum_number, product-number, no_variable)

@@ -17,7 +17,7 @@ pub type Verdict = Result<Answer, Refusal>;
 impl From<NotASentence> for Refusal {
     ghost from_gives = { λ _ refusal. refusal ≡ Refusal.NotASentence };
 
-    fn from(_words: NotASentence) -> Refusal {
+    fn from(_error: NotASentence) -> Refusal {
         Refusal::NotASentence
     }
 }

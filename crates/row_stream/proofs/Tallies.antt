@@ -13,10 +13,12 @@ use Rattle.stream.proofs.Resume.{answered-upon}
 use Rattle.words.specs.declared.answer.Answer.{Answer}
 use Rattle.words.specs.declared.answer.Answer.TheVariants.{Yes, No, GivenUp}
 use Rattle.row_stream.specs.declared.leaving.Gap.{Gap as RowGap}
-use Rattle.row_stream.specs.declared.quantifier.Quantifier.{Quantifier}
-use Rattle.row_stream.specs.declared.quantifier.Quantifier.TheVariants.{Exists, ForAll}
+use Rattle.words.specs.declared.quantifier.Quantifier.{Quantifier}
+use Rattle.words.specs.declared.quantifier.Quantifier.TheVariants.{Exists, ForAll}
 use Rattle.row_stream.specs.declared.tally.Tally.{Tally}
-use Rattle.row_stream.specs.Joined.{tree_of, over_all, before_of, join_of}
+use Rattle.words.specs.Joined.{before_of, join_of}
+use Rattle.words.specs.Quantifier.{over_all}
+use Rattle.row_stream.specs.Joined.{tree_of}
 use Rattle.row_stream.specs.Reached.{ended}
 
 before_tree : (q : Quantifier) → tree_of (before_of q) ≡ before (over_all q)

@@ -6,7 +6,6 @@ pub mod cell;
 pub mod chain;
 pub mod leaving;
 pub mod looks;
-pub mod quantifier;
 pub mod signs;
 pub mod sink;
 pub mod stage;

@@ -7,15 +7,17 @@ ghost use Rattle.stream.specs.Resume.{answered};
 ghost use Rattle.words.specs.declared.answer.Answer.{Answer as RowAnswer};
 ghost use Rattle.row_stream.specs.Signs.{signs_of};
 ghost use Rattle.row_stream.specs.Tables.{stages_of};
-ghost use Rattle.row_stream.specs.Joined.{join_of, over_all, tree_of};
+ghost use Rattle.words.specs.Joined.{join_of};
+ghost use Rattle.words.specs.Quantifier.{over_all};
+ghost use Rattle.row_stream.specs.Joined.{tree_of};
 
 use crate::chain::{Table, run};
 use crate::leaving::Gap;
-use crate::quantifier::Quantifier;
 use crate::signs::Signs;
 use crate::sink::Sink;
 use field::sign::Sign;
 use words::answer::Answer;
+use words::quantifier::Quantifier;
 
 // What is answered in a row.
 pub trait Judge {

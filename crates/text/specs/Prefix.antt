@@ -5,19 +5,20 @@ use Rattle.grammar.specs.declared.word.Word.{Word}
 use Rattle.grammar.specs.Reader.{Outcome, Refused, Read, refusal_at}
 use Rattle.grammar.specs.Text.{Prefix}
 use Rattle.text.specs.declared.prefix.Prefix.{Prefix as Quantified}
-use Rattle.text.specs.declared.prefix.Quantifier.{Quantifier}
+use Rattle.text.specs.declared.prefix.Bound.{Bound}
+use Rattle.words.specs.Quantifier.{over_all}
 
-abbrev pub name_of : Quantifier → Word
-name_of q = q.name
+abbrev pub name_of : Bound → Word
+name_of b = b.name
 
-abbrev pub every_of : Quantifier → Bool
-every_of q = q.every
+abbrev pub every_of : Bound → Bool
+every_of b = over_all b.quantifier
 
 abbrev pub prefix_of : Quantified → Prefix
 prefix_of p = record { names = map name_of (take p.count p.quantifiers); quantifiers = map every_of (take p.count p.quantifiers) }
 
-abbrev pub Longer : Quantified → Quantifier → Quantified → Type 0
-Longer p q r = prefix_of r ≡ record { names = q.name ∷ (prefix_of p).names; quantifiers = q.every ∷ (prefix_of p).quantifiers }
+abbrev pub Longer : Quantified → Bound → Quantified → Type 0
+Longer p b r = prefix_of r ≡ record { names = name_of b ∷ (prefix_of p).names; quantifiers = every_of b ∷ (prefix_of p).quantifiers }
 
 -- a prefix was read, with a number of quantifiers of which this holds
 abbrev pub PrefixShown : (ℕ → Type 0) → Outcome Prefix → Result Quantified Fault → ℕ → Type 0

@@ -3,8 +3,6 @@ use Rattle.std.specs.Prelude.{◌≡◌, ℕ, zero, suc, ◌≤◌, min, List, [
 use Rattle.field.specs.Sentence.{Term, Formula}
 use Rattle.grammar.specs.declared.relation.Relation.{Relation}
 use Rattle.grammar.specs.Meaning.{difference, power, compared, equivalent, term_words, formula_words}
-use Rattle.words.specs.declared.kind.Kind.{Kind}
-use Rattle.words.specs.declared.kind.Kind.TheVariants.{BelowZero, EqualsZero, Not, And, Or, Variable, Number, Sum, Product}
 use Rattle.text.specs.declared.row.Row.{Row}
 use Rattle.text.specs.declared.sheet.Sheet.{Sheet}
 use Rattle.text.specs.Row.{join_of}
@@ -18,18 +16,6 @@ pub record Holds (s : Sheet) (words : List ℤ) : Type 0 where
 -- the place behind these words
 abbrev pub Behind : List ℤ → ℕ → Type 0
 Behind words place = place ≡ min (length words) 1025
-
--- the words of the kinds, as term_words and formula_words have them
-abbrev pub kind_word : Kind → ℤ
-kind_word BelowZero = pos 1
-kind_word EqualsZero = pos 2
-kind_word Not = pos 3
-kind_word And = pos 4
-kind_word Or = pos 5
-kind_word Variable = pos 6
-kind_word Number = pos 7
-kind_word Sum = pos 8
-kind_word Product = pos 9
 
 abbrev pub Puts : ℤ → Sheet → Sheet → Type 0
 Puts w before after = (xs : List ℤ) → Holds before xs → Holds after (xs ++ (w ∷ []))

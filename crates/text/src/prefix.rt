@@ -1,8 +1,10 @@
 // The quantifiers of a sentence, with their names.
 ghost use Rattle.std.specs.Prelude.{◌≡◌, ◌+◌, ◌≤◌, map, slice_index};
+ghost use Rattle.std.specs.Result.{result_map_both};
 ghost use Rattle.grammar.specs.Reader.{run};
 ghost use Rattle.grammar.specs.Text.{quantifier_of, prefix_next, is_quantifier_letter, quantifiers};
 ghost use Rattle.grammar.specs.Tokens.{new_name};
+ghost use Rattle.words.specs.Quantifier.{over_all};
 ghost use Rattle.text.specs.Outcome.{outcome_of};
 ghost use Rattle.text.specs.Prefix.{name_of, prefix_of, Longer, PrefixRead, PrefixReads};
 
@@ -10,11 +12,12 @@ use crate::source::{Source, position};
 use crate::term::is_reserved;
 use grammar::fault::Fault;
 use grammar::word::Word;
+use words::quantifier::Quantifier;
 
+// A quantifier with the name that it binds.
 #[derive(Clone, Copy)]
-pub struct Quantifier {
-    // and not `some`
-    pub every: bool,
+pub struct Bound {
+    pub quantifier: Quantifier,
     pub name: Word,
 }
 
@@ -22,20 +25,20 @@ pub struct Quantifier {
 #[derive(Clone, Copy)]
 pub struct Prefix {
     // the innermost first, as many as are counted
-    pub quantifiers: [Quantifier; 4],
+    pub quantifiers: [Bound; 4],
     pub count: usize,
 }
 
 impl Prefix {
     // One quantifier more, the innermost.
-    fn longer(self, quantifier: Quantifier) -> Prefix
+    fn longer(self, bound: Bound) -> Prefix
         requires { self.count ≤ 3 }
-        ensures value { Longer self quantifier result }
+        ensures value { Longer self bound result }
         ensures count { result.count ≡ self.count + 1 }
     {
         let [first, second, third, _] = self.quantifiers;
         Prefix {
-            quantifiers: [quantifier, first, second, third],
+            quantifiers: [bound, first, second, third],
             count: self.count + 1,
         }
     }
@@ -44,7 +47,7 @@ impl Prefix {
     pub(crate) fn names(&self) -> [Word; 4]
         ensures { result ≡ map name_of self.now.quantifiers }
     {
-        self.quantifiers.map(|quantifier| quantifier.name)
+        self.quantifiers.map(|bound| bound.name)
     }
 }
 
@@ -66,18 +69,18 @@ impl Source<'_> {
         }
     }
 
-    // Whether a quantifier is `every`.
-    fn quantifier(&self, at: &mut usize) -> Result<bool, Fault>
-        ensures { run (quantifier_of (slice_index self.now.text.now at.old)) self.now.text.now at.old ≡ outcome_of result at.new }
+    // A quantifier, by its word.
+    fn quantifier(&self, at: &mut usize) -> Result<Quantifier, Fault>
+        ensures { run (quantifier_of (slice_index self.now.text.now at.old)) self.now.text.now at.old ≡ outcome_of (result_map_both over_all (λ fault. fault) result) at.new }
     {
         match self.front(*at) {
             b'e' => {
                 self.keyword(at, b"every")?;
-                Ok(true)
+                Ok(Quantifier::ForAll)
             }
             _ => {
                 self.keyword(at, b"some")?;
-                Ok(false)
+                Ok(Quantifier::Exists)
             }
         }
     }
@@ -93,9 +96,9 @@ fn prefix_next(text: &[u8], at: &mut usize, prefix: Prefix) -> Result<Prefix, Fa
         text,
         names: &names[..prefix.count],
     };
-    let every = source.quantifier(at)?;
+    let quantifier = source.quantifier(at)?;
     let name = source.new_name(at)?;
-    Ok(prefix.longer(Quantifier { every, name }))
+    Ok(prefix.longer(Bound { quantifier, name }))
 }
 
 // Whether a quantifier begins like this.
@@ -109,8 +112,8 @@ fn begins_quantifier(c: u8) -> bool
 pub fn quantifiers(text: &[u8], at: &mut usize) -> Result<Prefix, Fault>
     ensures { PrefixReads (run quantifiers text.now at.old) result at.new }
 {
-    let none = Quantifier {
-        every: false,
+    let none = Bound {
+        quantifier: Quantifier::Exists,
         name: Word {
             letters: [0; 8],
             length: 0,

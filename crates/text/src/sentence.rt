@@ -20,8 +20,8 @@ fn announce(sheet: &mut Sheet, prefix: Prefix)
     ensures { Announces prefix sheet.old sheet.new }
 {
     sheet.put(prefix.count as i64);
-    for quantifier in &prefix.quantifiers[..prefix.count] {
-        sheet.put(i64::from(quantifier.every));
+    for bound in &prefix.quantifiers[..prefix.count] {
+        sheet.put(i64::from(bound.quantifier));
     }
 }
 

@@ -1,6 +1,7 @@
 // Words as they are written, as many as a sentence may have; of more it is only known that they are too many.
 ghost use Rattle.std.specs.Prelude.{◌≡◌, ◌+◌, ◌≤◌, min};
-ghost use Rattle.text.specs.Sheet.{Puts, Inserts, Negates, Repeats, Copies, Multiplies, Raises, Exchanges, Compares, Subtracts, SubtractsFrom, Implies, Equates, Joins, kind_word};
+ghost use Rattle.text.specs.Sheet.{Puts, Inserts, Negates, Repeats, Copies, Multiplies, Raises, Exchanges, Compares, Subtracts, SubtractsFrom, Implies, Equates, Joins};
+ghost use Rattle.words.specs.Kind.{kind_word};
 
 use crate::row::Row;
 use grammar::relation::Relation;
@@ -14,23 +15,6 @@ fn three_on(place: usize) -> usize
     ensures { result ≡ min (place + 3) 1025 }
 {
     place.saturating_add(3).min(CAPACITY + 1)
-}
-
-// The word that says this kind.
-fn kind_word(kind: Kind) -> i64
-    ensures { result ≡ kind_word kind }
-{
-    match kind {
-        Kind::BelowZero => 1,
-        Kind::EqualsZero => 2,
-        Kind::Not => 3,
-        Kind::And => 4,
-        Kind::Or => 5,
-        Kind::Variable => 6,
-        Kind::Number => 7,
-        Kind::Sum => 8,
-        Kind::Product => 9,
-    }
 }
 
 // Fixed memory, in which no write fails: what comes past the capacity is only counted.
@@ -67,14 +51,14 @@ impl Sheet {
     pub fn put_kind(&mut self, kind: Kind)
         ensures { Puts (kind_word kind) self.old self.new }
     {
-        self.put(kind_word(kind));
+        self.put(kind.into());
     }
 
     // A kind in front of the words that begin at `from`.
     pub fn insert_kind(&mut self, from: usize, kind: Kind)
         ensures { Inserts from (kind_word kind) self.old self.new }
     {
-        self.insert(from, kind_word(kind));
+        self.insert(from, kind.into());
     }
 
     // Minus one times the term that begins at `from`.

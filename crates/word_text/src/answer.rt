@@ -24,16 +24,24 @@ pub fn verdict_of_text(heap: Global, text: &[u8]) -> Result<Verdict, AllocError>
 #[derive(Clone, Copy)]
 pub struct Line(pub Verdict);
 
-impl fmt::Display for Line {
-    ghost output = { λ line. Some (line_of line.0) };
-
-    fn fmt<W: fmt::Write>(&self, f: &mut fmt::Formatter<W>) -> fmt::Result {
-        f.write_str(match self.0 {
+impl Line {
+    pub fn text(&self) -> &'static str
+        ensures { result.now ≡ line_of self.now.0 }
+    {
+        match self.0 {
             Ok(Answer::Yes) => "holds",
             Ok(Answer::No) => "fails",
             Ok(Answer::GivenUp) => "given up",
             Err(Refusal::NotASentence) => "no 3",
             Err(Refusal::NotDecided) => "not decided yet",
-        })
+        }
+    }
+}
+
+impl fmt::Display for Line {
+    ghost output = { λ line. Some (line_of line.0) };
+
+    fn fmt<W: fmt::Write>(&self, f: &mut fmt::Formatter<W>) -> fmt::Result {
+        f.write_str(self.text())
     }
 }

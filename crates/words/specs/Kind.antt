@@ -10,3 +10,15 @@ kind_of (pos n) =
     (cond (n == 5) (Some Or) (cond (n == 6) (Some Variable) (cond (n == 7) (Some Number) (cond (n == 8) (Some Sum)
     (cond (n == 9) (Some Product) None))))))))
 kind_of (negsuc n) = None
+
+-- the word of a kind
+abbrev pub kind_word : Kind → ℤ
+kind_word BelowZero = pos 1
+kind_word EqualsZero = pos 2
+kind_word Not = pos 3
+kind_word And = pos 4
+kind_word Or = pos 5
+kind_word Variable = pos 6
+kind_word Number = pos 7
+kind_word Sum = pos 8
+kind_word Product = pos 9

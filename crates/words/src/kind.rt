@@ -1,7 +1,7 @@
 // What a word says where a formula or a term begins.
-ghost use Rattle.std.specs.Prelude.{◌≡◌};
+ghost use Rattle.std.specs.Prelude.{◌≡◌, Some};
 ghost use Rattle.std.specs.Result.{result_ok};
-ghost use Rattle.words.specs.Kind.{kind_of};
+ghost use Rattle.words.specs.Kind.{kind_of, kind_word};
 
 use crate::reader::NotASentence;
 
@@ -36,6 +36,25 @@ impl TryFrom<i64> for Kind {
             8 => Ok(Kind::Sum),
             9 => Ok(Kind::Product),
             _ => Err(NotASentence),
+        }
+    }
+}
+
+// The word that stands for it.
+impl From<Kind> for i64 {
+    ghost from_gives = { λ kind word. (word ≡ kind_word kind) × (kind_of word ≡ Some kind) };
+
+    fn from(kind: Kind) -> i64 {
+        match kind {
+            Kind::BelowZero => 1,
+            Kind::EqualsZero => 2,
+            Kind::Not => 3,
+            Kind::And => 4,
+            Kind::Or => 5,
+            Kind::Variable => 6,
+            Kind::Number => 7,
+            Kind::Sum => 8,
+            Kind::Product => 9,
         }
     }
 }

@@ -3,5 +3,6 @@
 
 pub mod answer;
 pub mod kind;
+pub mod quantifier;
 pub mod reader;
 pub mod sentence;

@@ -1,10 +1,12 @@
 // A reader of words: it holds what is still to be read, and each method takes its part off the front.
 ghost use Rattle.std.specs.Prelude.{◌≡◌};
 ghost use Rattle.words.specs.Kind.{kind_of};
+ghost use Rattle.words.specs.Quantifier.{over_all};
 ghost use Rattle.words.specs.Reading.{outcome, mapped, skipped, meant, word_at};
 ghost use Rattle.words.specs.Words.{variable_of, number_of, quantifier_of, count_of, term_at, formula_at, quantifiers_at, sentence_at};
 
 use crate::kind::Kind;
+use crate::quantifier::Quantifier;
 
 // How deep a sentence's formula may be nested.
 pub const DEEPEST: usize = 1024;
@@ -58,28 +60,27 @@ impl Reader<'_> {
         }
     }
 
-    // Whether a quantifier is "every".
-    pub fn is_every(&mut self) -> Result<bool, NotASentence>
-        ensures { outcome result self.new.rest.now ≡ meant quantifier_of self.old.rest.now }
+    // A quantifier.
+    pub fn quantifier(&mut self) -> Result<Quantifier, NotASentence>
+        ensures { mapped over_all (outcome result self.new.rest.now) ≡ meant quantifier_of self.old.rest.now }
     {
-        match self.word()? {
-            0 => Ok(false),
-            1 => Ok(true),
-            _ => Err(NotASentence),
-        }
+        let word = self.word()?;
+        Quantifier::try_from(word)
     }
 
     // How many quantifiers there are.
     pub fn count(&mut self) -> Result<u8, NotASentence>
         ensures { outcome result self.new.rest.now ≡ meant count_of self.old.rest.now }
     {
-        match self.word()? {
-            count @ 0..=4 => Ok(count as u8),
+        match u8::try_from(self.word()?) {
+            Ok(count) if count <= 4 => Ok(count),
             _ => Err(NotASentence),
         }
     }
 
-    // Passes over a term about so many variables, nested at most so deep. At each level the depth falls and the variables stay: a struct of both would only be taken apart.
+    // Passes over a term about so many variables, nested at most so deep.
+    // Depth and variables stay two numbers: at each level one falls and one stays, and a struct would only be taken apart. Nor are the variables a field:
+    // a Reader reads their count itself, and over sentences without quantifiers there are none.
     #[tactic(auto, using(crate::proofs::Words::term_steps))]
     pub fn skip_term(&mut self, depth: usize, variables: u8) -> Result<(), NotASentence>
         ensures { outcome result self.new.rest.now ≡ mapped skipped (term_at depth variables self.old.rest.now) }
@@ -131,7 +132,7 @@ impl Reader<'_> {
         ensures { outcome result self.new.rest.now ≡ mapped skipped (quantifiers_at count self.old.rest.now) }
     {
         for _ in 0..count {
-            self.is_every()?;
+            self.quantifier()?;
         }
         Ok(())
     }

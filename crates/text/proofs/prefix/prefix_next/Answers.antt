@@ -9,21 +9,21 @@ use Rattle.text.specs.Prefix.{name_of, prefix_of}
 use Rattle.text.proofs.Prefixes.{prefix_refused}
 use Rattle.text.proofs.prefix.prefix_next.Goals as goal
 
-pub returns-in_err-every : goal.returns-in_err-every
+pub returns-in_err-quantifier : goal.returns-in_err-quantifier
 unfolding prefix_next run
-returns-in_err-every c = prefix_refused _ _ c.from_residual.result _ _ (stops (Look quantifier_of) _ _ _ _ c.in_err-every.ensures) c.from_residual.ensures.1
+returns-in_err-quantifier c = prefix_refused _ _ c.from_residual.result _ _ (stops (Look quantifier_of) _ _ _ _ c.in_err-quantifier.ensures) c.from_residual.ensures.1
 
 pub returns-in_err-name : goal.returns-in_err-name
 unfolding prefix_next run
 returns-in_err-name c =
     let named : take c.args.prefix.count c.names-names.result ≡ (prefix_of c.args.prefix).names = ap (take c.args.prefix.count) c.names-names.ensures ∙ take-map name_of c.args.prefix.count c.args.prefix.quantifiers in
-    prefix_refused _ _ c.from_residual-in_err-name.result _ _ (goes_on (Look quantifier_of) _ _ _ _ _ c.in_ok-every.ensures ∙ stops (new_name (prefix_of c.args.prefix).names) _ _ _ _ (ap (λ names. run (new_name names) c.args.text.now c.quantifier.new.at) (sym named) ∙ c.in_err-name.ensures)) c.from_residual-in_err-name.ensures.1
+    prefix_refused _ _ c.from_residual-in_err-name.result _ _ (goes_on (Look quantifier_of) _ _ _ _ _ c.in_ok-quantifier.ensures ∙ stops (new_name (prefix_of c.args.prefix).names) _ _ _ _ (ap (λ names. run (new_name names) c.args.text.now c.quantifier.new.at) (sym named) ∙ c.in_err-name.ensures)) c.from_residual-in_err-name.ensures.1
 
 pub returns : goal.returns
 unfolding prefix_next run
 returns c =
     let named : take c.args.prefix.count c.names-names.result ≡ (prefix_of c.args.prefix).names = ap (take c.args.prefix.count) c.names-names.ensures ∙ take-map name_of c.args.prefix.count c.args.prefix.quantifiers in (
-      goes_on (Look quantifier_of) _ _ _ _ _ c.in_ok-every.ensures ∙ goes_on (new_name (prefix_of c.args.prefix).names) _ _ _ _ _ (ap (λ names. run (new_name names) c.args.text.now c.quantifier.new.at) (sym named) ∙ c.in_ok-name.ensures) ∙
+      goes_on (Look quantifier_of) _ _ _ _ _ c.in_ok-quantifier.ensures ∙ goes_on (new_name (prefix_of c.args.prefix).names) _ _ _ _ _ (ap (λ names. run (new_name names) c.args.text.now c.quantifier.new.at) (sym named) ∙ c.in_ok-name.ensures) ∙
           ap (λ p. Read p c.new_name.new.at) (sym c.longer.ensures.value),
       c.longer.ensures.count,
     )

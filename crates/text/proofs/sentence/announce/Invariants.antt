@@ -4,5 +4,5 @@ use Rattle.text.specs.Prefix.{every_of}
 use Rattle.text.specs.Sheet.{Holds}
 use Rattle.text.proofs.sentence.announce.Given as goal
 
-abbrev pub invariant-loop-quantifier : goal.invariant-loop-quantifier
-invariant-loop-quantifier l = Holds l.initial.sheet (pos l.fn.prefix.count ∷ []) → Holds l.sheet (pos l.fn.prefix.count ∷ map quantifier_word (take l.quantifier-index (map every_of l.quantifier-items)))
+abbrev pub invariant-loop-bound : goal.invariant-loop-bound
+invariant-loop-bound l = Holds l.initial.sheet (pos l.fn.prefix.count ∷ []) → Holds l.sheet (pos l.fn.prefix.count ∷ map quantifier_word (take l.bound-index (map every_of l.bound-items)))
