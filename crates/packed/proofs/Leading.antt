@@ -96,6 +96,7 @@ rising-above lo hi b (m ∷ ms) (suc i) r h l =
     on_test (ltb m.key b) (λ _. b ≤ (term_at ms i).key) (λ t. ih (let e = count_less b m ms (ltb→lt m.key b t) in omega arith) (le_of_suc-le-suc l))
     (λ t. let k = nltb→le m.key b t in omega arith)
 
+-- so the keys from there on rise from it
 pub high-left : (lo hi b : ℕ) (ts : List Monomial) → Rising lo hi ts → Rising b hi (drop (count_below b ts) ts)
 unfolding Rising
 high-left lo hi b [] r = none

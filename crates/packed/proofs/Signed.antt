@@ -63,6 +63,7 @@ pub same_cons : (a b : Monomial) (p q : List Monomial) → same_terms (a ∷ p) 
 unfolding same_terms
 same_cons a b p q = refl
 
+-- what two terms say of their monomials
 pub terms_test : (a b : Term) → eqb a.key b.key && int_eq a.coefficient b.coefficient ≡ same_monomial (monomial_in a) (monomial_in b)
 terms_test a b = ap (λ t. eqb a.key b.key && t) (number_test a.coefficient b.coefficient)
   where
