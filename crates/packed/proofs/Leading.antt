@@ -96,6 +96,19 @@ rising-above lo hi b (m ∷ ms) (suc i) r h l =
     on_test (ltb m.key b) (λ _. b ≤ (term_at ms i).key) (λ t. ih (let e = count_less b m ms (ltb→lt m.key b t) in omega arith) (le_of_suc-le-suc l))
     (λ t. let k = nltb→le m.key b t in omega arith)
 
+-- so the keys from there on rise from it
+pub high-left : (lo hi b : ℕ) (ts : List Monomial) → Rising lo hi ts → Rising b hi (drop (count_below b ts) ts)
+unfolding Rising
+high-left lo hi b [] r = none
+  where
+    none : Rising b hi (drop (count_below b []) [])
+    none = unfold count_below in tt
+high-left lo hi b (m ∷ ms) r =
+    let From : ℕ → Type 0 = λ n. Rising b hi (drop n (m ∷ ms)) in
+    on_test (ltb m.key b) (λ _. From (count_below b (m ∷ ms)))
+    (λ t. subst From (sym (count_less b m ms (ltb→lt m.key b t))) (high-left (suc m.key) hi b ms r.3))
+    (λ t. let h = nltb→le m.key b t in subst From (sym (count_end b m ms h)) (h, r.1, r.2, r.3))
+
 pub take-rising : (lo hi : ℕ) (ts : List Monomial) (n : ℕ) → Rising lo hi ts → Rising lo hi (take n ts)
 unfolding Rising
 take-rising lo hi ts zero r = tt

@@ -4,3 +4,5 @@ pub mod StoredTest
 pub mod Lowered
 pub mod Leading
 pub mod Signed
+pub mod Compared
+pub mod Walked

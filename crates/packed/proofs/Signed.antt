@@ -1,5 +1,5 @@
 -- Monomials and their negatives, and when two lists are the same. Assumes nothing.
-use Rattle.std.proofs.Common.{◌≡◌, ℕ, zero, suc, ◌+◌, ◌<◌, Bool, true, false, not, ◌&&◌, T, eqb, List, [], ◌∷◌, length, drop, ℤ, ◌+ℤ◌, neg_ℤ, int_eq, sym, refl, ap, ◌∙◌, subst, ap₂, le_of_suc-le-suc, arith}
+use Rattle.std.proofs.Common.{◌≡◌, ℕ, zero, suc, ◌<◌, Bool, true, false, not, ◌&&◌, T, eqb, List, [], ◌∷◌, length, ℤ, ◌+ℤ◌, neg_ℤ, int_eq, sym, refl, ap, subst, ap₂, le_of_suc-le-suc, arith}
 use lib.IntN.{+ℤ_invr}
 use Rattle.std.proofs.Math.IntN.{neg_ℤ-neg_ℤ}
 use Rattle.std.proofs.lemmas.Bool.Decides.{same_from_decides, Decides-int_eq}
@@ -12,7 +12,6 @@ use Rattle.terms.proofs.Variables.{zero_difference}
 use Rattle.packed.specs.declared.term.Term.{Term}
 use Rattle.packed.specs.Terms.{term_at, monomial_in}
 use Rattle.packed.specs.Signed.{signed, signed_number, same_monomial}
-use Rattle.packed.proofs.Leading.{from_place}
 
 negated_at : (ts : List Monomial) (i : ℕ) → i < length ts → term_at (neg_terms ts) i ≡ monomial (term_at ts i).key (neg_ℤ (term_at ts i).times)
 unfolding neg_terms
@@ -60,46 +59,18 @@ pub signed-sizes : (b : Bool) (most : ℕ) (ts : List Monomial) → SizesAtMost 
 signed-sizes true most ts k = sizes-negated most ts k
 signed-sizes false most ts k = k
 
--- lists of different lengths are not the same
-pub other_length : (p q : List Monomial) → (length p ≡ length q → ⊥) → same_terms p q ≡ false
-unfolding same_terms
-other_length [] [] h = absurd (h refl)
-other_length [] (b ∷ q) h = refl
-other_length (a ∷ p) [] h = refl
-other_length (a ∷ p) (b ∷ q) h = ap (λ t. same_monomial a b && t) (other_length p q (λ e. h (ap suc e))) ∙ none (same_monomial a b)
-  where
-    none : (t : Bool) → t && false ≡ false
-    none true = refl
-    none false = refl
-
-same_cons : (a b : Monomial) (p q : List Monomial) → same_terms (a ∷ p) (b ∷ q) ≡ same_monomial a b && same_terms p q
+pub same_cons : (a b : Monomial) (p q : List Monomial) → same_terms (a ∷ p) (b ∷ q) ≡ same_monomial a b && same_terms p q
 unfolding same_terms
 same_cons a b p q = refl
 
-pub same_place : (p q : List Monomial) (i : ℕ) → i < length p → i < length q →
-    same_terms (drop i p) (drop i q) ≡ same_monomial (term_at p i) (term_at q i) && same_terms (drop (i + 1) p) (drop (i + 1) q)
-same_place p q i h g = ap₂ same_terms (from_place p i h) (from_place q i g) ∙ same_cons (term_at p i) (term_at q i) (drop (i + 1) p) (drop (i + 1) q)
-
 -- what two terms say of their monomials
-terms_test : (a b : Term) → eqb a.key b.key && int_eq a.coefficient b.coefficient ≡ same_monomial (monomial_in a) (monomial_in b)
+pub terms_test : (a b : Term) → eqb a.key b.key && int_eq a.coefficient b.coefficient ≡ same_monomial (monomial_in a) (monomial_in b)
 terms_test a b = ap (λ t. eqb a.key b.key && t) (number_test a.coefficient b.coefficient)
   where
     number_test : (x y : ℤ) → int_eq x y ≡ is_zero_number (x +ℤ neg_ℤ y)
     number_test x y =
         same_from_decides (int_eq x y) (is_zero_number (x +ℤ neg_ℤ y)) (Decides-int_eq x y)
         (λ t. zero_difference x y (subst T (sym t) tt), λ e. subst (λ z. is_zero_number (x +ℤ neg_ℤ z) ≡ true) e (ap is_zero_number (+ℤ_invr x)))
-
--- a comparison of two terms is a step of the comparison of the lists
-pub same-step : (p q : List Monomial) (i : ℕ) (a b : Term) (other : Bool) → i < length p → i < length q → monomial_in a ≡ term_at p i → monomial_in b ≡ term_at q i →
-    other ≡ not (eqb a.key b.key && int_eq a.coefficient b.coefficient) →
-    same_terms (drop i p) (drop i q) ≡ same_terms p q → not other && same_terms (drop (i + 1) p) (drop (i + 1) q) ≡ same_terms p q
-same-step p q i a b other h g e f o same =
-    ap (λ t. t && same_terms (drop (i + 1) p) (drop (i + 1) q)) (ap not o ∙ twice (eqb a.key b.key && int_eq a.coefficient b.coefficient) ∙ terms_test a b ∙ ap₂ same_monomial e f) ∙
-    sym (same_place p q i h g) ∙ same
-  where
-    twice : (t : Bool) → not (not t) ≡ t
-    twice true = refl
-    twice false = refl
 
 pub same_none : same_terms [] [] ≡ true
 unfolding same_terms

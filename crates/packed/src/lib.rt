@@ -2,6 +2,7 @@
 #![tactic(auto)]
 
 pub mod equality;
+pub mod monomials;
 pub mod stretch;
 pub mod term;
 pub mod variables;

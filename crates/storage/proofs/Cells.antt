@@ -1,5 +1,5 @@
 -- The cells of a modest list are a stored polynomial. Assumes nothing.
-use Rattle.std.proofs.Common.{◌≡◌, ℕ, zero, suc, ◌-◌, ◌^◌, ◌<◌, T, leb, List, [], ◌∷◌, length, get_or, pos, sym, refl, ap, subst, le_of_suc-le-suc, arith}
+use Rattle.std.proofs.Common.{◌≡◌, suc, ◌-◌, ◌^◌, T, leb, List, [], ◌∷◌, length, sym, refl, ap, subst, arith}
 use Rattle.terms.specs.Monomial.{Monomial, Rising}
 use Rattle.terms.specs.ModestTerms.{small_terms, count_terms, modest_terms}
 use Rattle.terms.specs.Sizes.{SizesAtMost}
@@ -9,7 +9,6 @@ use Rattle.terms.proofs.Bounds.{keys_rising}
 use Rattle.terms.proofs.CellTrips.{monomials_of_cells}
 use Rattle.terms.proofs.Modests.{modest_sizes}
 use Rattle.packed.specs.Stored.{Stored}
-use Rattle.packed.specs.Terms.{term_at}
 use Rattle.storage.proofs.ModestSteps.{modest-rising, modest-short}
 
 pub length-cells : (ts : List Monomial) → length (cells_of ts) ≡ length ts
@@ -17,11 +16,13 @@ unfolding cells_of
 length-cells [] = refl
 length-cells (m ∷ ms) = ap suc (length-cells ms)
 
-pub cell_at : (ts : List Monomial) (i : ℕ) → i < length ts → get_or (cells_of ts) i (pos 0) ≡ cell_of (term_at ts i)
+pub cells-next : (left left' : List Monomial) (m : Monomial) → left ≡ m ∷ left' → cells_of left ≡ cell_of m ∷ cells_of left'
 unfolding cells_of
-cell_at [] i h = absurd (omega arith)
-cell_at (m ∷ ms) zero h = refl
-cell_at (m ∷ ms) (suc i) h = cell_at ms i (le_of_suc-le-suc h)
+cells-next left left' m e = ap cells_of e
+
+pub cells_none : cells_of [] ≡ []
+unfolding cells_of
+cells_none = refl
 
 pub cells-back : (ts : List Monomial) → Rising 0 (2 ^ 20) ts → monomials_of (cells_of ts) ≡ ts
 cells-back ts r = monomials_of_cells ts (keys_rising 0 (2 ^ 20) ts r)

@@ -1,11 +1,14 @@
 -- The tests of modesty, a step at a time, and what they imply. Assumes nothing.
-use Rattle.std.proofs.Common.{◌≡◌, ℕ, zero, suc, ◌+◌, ◌-◌, ◌/◌, ◌%◌, ◌^◌, ◌<◌, ◌≤◌, true, false, cond, ◌&&◌, T, eqb, ltb, leb, List, [], ◌∷◌, length, drop, sym, refl, ap, ◌∙◌, subst, arith, eqb→eq, ltb→lt, leb→le, drop_of_length-le, le-ltb, lt-ltb, eq-eqb, ne_eqb}
+use Rattle.std.proofs.Common.{◌≡◌, Bool, Option, None, Some, MatchOption, ap₂, ℕ, zero, suc, ◌+◌, ◌-◌, ◌/◌, ◌%◌, ◌^◌, ◌<◌, ◌≤◌, true, false, cond, ◌&&◌, T, eqb, ltb, leb, List, [], ◌∷◌, length, sym, refl, ap, ◌∙◌, subst, arith, eqb→eq, ltb→lt, leb→le, le-ltb, lt-ltb}
 use Rattle.poly.specs.Modest.{magnitude}
 use Rattle.terms.specs.Monomial.{Monomial, Rising}
 use Rattle.terms.specs.ModestTerms.{small_key, small_terms, last_digits, modest_terms}
 use Rattle.terms.proofs.Tests.{T-both, on_test}
-use Rattle.packed.specs.Terms.{term_at}
-use Rattle.packed.proofs.Leading.{from_place}
+use Rattle.std.specs.List.{FoldsTo}
+use Rattle.std.specs.Iterator.{YieldsFirstBy, YieldsThen, ChecksAll}
+use denote.Param.Members.{Mut, Called}
+use Rattle.packed.specs.declared.term.Term.{Term}
+use Rattle.packed.specs.Terms.{monomial_in}
 
 pub small_done : (d k : ℕ) → d ≤ 0 → small_key d k ≡ true
 unfolding small_key
@@ -26,13 +29,28 @@ small_cons : (n : ℕ) (m : Monomial) (ms : List Monomial) → small_terms n (m 
 unfolding small_terms
 small_cons n m ms = refl
 
-pub small-place : (n : ℕ) (ts : List Monomial) (i : ℕ) → i < length ts →
-    small_terms n (drop i ts) ≡ (ltb (magnitude (term_at ts i).times) (2 ^ 27) && small_key n (term_at ts i).key) && small_terms n (drop (i + 1) ts)
-small-place n ts i h = ap (small_terms n) (from_place ts i h) ∙ small_cons n (term_at ts i) (drop (i + 1) ts)
+abbrev pub small_term : Term → Bool
+small_term t = ltb (magnitude t.coefficient) (2 ^ 27) && small_key 4 t.key
 
-pub small_end : (n : ℕ) (ts : List Monomial) (i : ℕ) → length ts ≤ i → small_terms n (drop i ts) ≡ true
+small_none : (n : ℕ) → small_terms n [] ≡ true
 unfolding small_terms
-small_end n ts i h = ap (small_terms n) (drop_of_length-le ts h)
+small_none n = refl
+
+module _ {F : Type 0} (g : Mut F (Term × Unit {0}) Bool) (answers : (p : F) (x : Term) (r : Bool) (q : F) → Called g p (x, tt) r q → r ≡ small_term x) where
+  all_asked : (s : List Monomial) (xs : List Term) (o : Option Term) (f f' : F) (u : List Monomial) (r : Bool) → YieldsThen (YieldsFirstBy monomial_in (λ rest. rest)) s xs o u →
+      FoldsTo (λ p x q. Called g p (x, tt) true q) f xs f' → MatchOption o (r ≡ true) (λ x. (r ≡ false) × ((h : F) × Called g f' (x, tt) false h)) → r ≡ small_terms 4 s
+  all_asked s [] None f f' u r y a l = l ∙ sym (ap (small_terms 4) (y.1 ∙ y.2.0) ∙ small_none 4)
+  all_asked s [] (Some x) f f' u r y a l =
+      l.0 ∙ sym (ap (small_terms 4) (y.1 ∙ y.2) ∙ small_cons 4 (monomial_in x) u ∙ ap (λ t. t && small_terms 4 u) (sym (answers f' x false l.1.0 l.1.1)))
+  all_asked s (x ∷ xs) o f f' u r y a l =
+      let next = y.1 in
+      all_asked next.0 xs o a.0 f' u r (y.0, next.2, y.2) a.2 l ∙
+      sym (ap (small_terms 4) next.1 ∙ small_cons 4 (monomial_in x) next.0 ∙ ap (λ t. t && small_terms 4 next.0) (sym (answers f x true a.0 a.1)))
+
+-- `all` asks each monomial, or stops at the first that isn't small
+pub all_small : {F : Type 0} {g : Mut F (Term × Unit {0}) Bool} {f : F} {u : List Monomial} (s : List Monomial) (r : Bool) → ChecksAll (YieldsFirstBy monomial_in (λ rest. rest)) g s f r u →
+    ((p : F) (x : Term) (r : Bool) (q : F) → Called g p (x, tt) r q → r ≡ small_term x) → r ≡ small_terms 4 s
+all_small {g = g} {f = f} {u = u} s r c answers = all_asked g answers s c.0 c.1 f c.2 u r c.3 c.4 c.5
 
 digits-one : (m : Monomial) → last_digits (m ∷ []) ≡ m.key % 32 + 1
 unfolding last_digits
@@ -42,35 +60,22 @@ digits-two : (m k : Monomial) (ms : List Monomial) → last_digits (m ∷ k ∷ 
 unfolding last_digits
 digits-two m k ms = refl
 
-digits_none : last_digits [] ≡ 0
+pub digits_none : last_digits [] ≡ 0
 unfolding last_digits
 digits_none = refl
 
-pub digits_end : (ts : List Monomial) (i : ℕ) → length ts ≤ i → last_digits (drop i ts) ≡ 0
-digits_end ts i h = ap last_digits (drop_of_length-le ts h) ∙ digits_none
+-- the first of a list, or none
+abbrev pub Heads : Option Term → List Monomial → Type 0
+Heads None ts = ts ≡ []
+Heads (Some t) ts = (rest : List Monomial) × (ts ≡ monomial_in t ∷ rest)
 
--- the last monomial of all
-pub digits_last : (ts : List Monomial) (i : ℕ) → i < length ts → length ts ≤ i + 1 → (term_at ts i).key % 32 + 1 + last_digits (drop (i + 1) ts) ≡ last_digits (drop i ts)
-digits_last ts i h l =
-    let gone = drop_of_length-le ts l in
-    let e : last_digits (drop i ts) ≡ (term_at ts i).key % 32 + 1 = ap last_digits (from_place ts i h ∙ ap (λ w. term_at ts i ∷ w) gone) ∙ digits-one (term_at ts i) in
-    let f : last_digits (drop (i + 1) ts) ≡ 0 = ap last_digits gone ∙ digits_none in
-    omega arith
-
-two_places : (ts : List Monomial) (i : ℕ) → i + 1 < length ts →
-    last_digits (drop i ts) ≡ cond (eqb ((term_at ts i).key / 32) ((term_at ts (i + 1)).key / 32)) 0 ((term_at ts i).key % 32 + 1) + last_digits (drop (i + 1) ts)
-two_places ts i h =
-    ap last_digits (from_place ts i (omega arith) ∙ ap (λ w. term_at ts i ∷ w) (from_place ts (i + 1) h)) ∙ digits-two (term_at ts i) (term_at ts (i + 1)) (drop (i + 1 + 1) ts) ∙
-    ap (λ w. cond (eqb ((term_at ts i).key / 32) ((term_at ts (i + 1)).key / 32)) 0 ((term_at ts i).key % 32 + 1) + last_digits w) (sym (from_place ts (i + 1) h))
-
--- an innermost list goes on, or ends
-pub digits_on : (ts : List Monomial) (i : ℕ) → i + 1 < length ts → (term_at ts (i + 1)).key / 32 ≡ (term_at ts i).key / 32 → 0 + last_digits (drop (i + 1) ts) ≡ last_digits (drop i ts)
-digits_on ts i h e = sym (two_places ts i h ∙ ap (λ t. cond t 0 ((term_at ts i).key % 32 + 1) + last_digits (drop (i + 1) ts)) (eq-eqb ((term_at ts i).key / 32) ((term_at ts (i + 1)).key / 32) (sym e)))
-
-pub digits-over : (ts : List Monomial) (i : ℕ) → i + 1 < length ts → ((term_at ts (i + 1)).key / 32 ≡ (term_at ts i).key / 32 → ⊥) →
-    (term_at ts i).key % 32 + 1 + last_digits (drop (i + 1) ts) ≡ last_digits (drop i ts)
-digits-over ts i h n =
-    sym (two_places ts i h ∙ ap (λ t. cond t 0 ((term_at ts i).key % 32 + 1) + last_digits (drop (i + 1) ts)) (ne_eqb ((term_at ts i).key / 32) ((term_at ts (i + 1)).key / 32) (λ e. n (sym e))))
+-- the numbers of one more monomial, and of those from the next one on
+pub digits-before : (m : Term) (next : Option Term) (ts : List Monomial) (n : ℕ) → Heads next ts →
+    MatchOption next (n ≡ m.key % 32 + 1) (λ k. n ≡ cond (eqb (m.key / 32) (k.key / 32)) 0 (m.key % 32 + 1)) → n + last_digits ts ≡ last_digits (monomial_in m ∷ ts)
+digits-before m None ts n h e =
+    omega (arith, ap last_digits h, digits_none, e, ap (λ w. last_digits (monomial_in m ∷ w)) h, digits-one (monomial_in m))
+digits-before m (Some k) ts n h e =
+    ap₂ ◌+◌ e (ap last_digits h.1) ∙ sym (ap (λ w. last_digits (monomial_in m ∷ w)) h.1 ∙ digits-two (monomial_in m) (monomial_in k) h.0)
 
 -- a key whose four digits are at most 8
 key_bound : (k : ℕ) → k < 2 ^ 20 → T (small_key 4 k) → k < 2 ^ 19

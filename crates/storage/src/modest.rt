@@ -1,9 +1,10 @@
 // Which lists of monomials are modest: coefficients below 2^27, exponents at most 8, at most 64 numbers as nested lists.
-ghost use Rattle.std.specs.Prelude.{◌≡◌, ℕ, ◌+◌, ◌^◌, ◌<◌, ◌≤◌, ◌&&◌, length, drop, nat_lt};
+ghost use Rattle.std.specs.Prelude.{◌≡◌, ◌+◌, ◌/◌, ◌%◌, ◌^◌, ◌≤◌, ◌==◌, ◌&&◌, cond, nat_lt, MatchOption};
 ghost use Rattle.poly.specs.Modest.{magnitude};
 ghost use Rattle.terms.specs.ModestTerms.{small_key, small_terms, last_digits, modest_terms};
 ghost use Rattle.wide.specs.Written.{written};
 
+use packed::monomials::Monomials;
 use packed::term::Term;
 use wide::wide::Wide;
 
@@ -20,12 +21,7 @@ pub fn is_modest(list: &Wide) -> bool
 fn is_small(list: &Wide) -> bool
     ensures { result ≡ small_terms 4 (written list.now) }
 {
-    for i in 0..list.len() {
-        if !is_small_term(list.term(i)) {
-            return false;
-        }
-    }
-    true
+    list.terms().all(is_small_term)
 }
 
 fn is_small_term(term: Term) -> bool
@@ -53,24 +49,21 @@ fn number_count(list: &Wide) -> u64
     ensures { result ≡ last_digits (written list.now) }
 {
     let mut count = 0;
-    for i in 0..list.len() {
-        count += numbers_at(list, i);
+    let mut next = None;
+    for term in list.terms().rev() {
+        count += numbers(term, next);
+        next = Some(term);
     }
     count
 }
 
-// How many of them an innermost list has that ends with this monomial; none if it goes on.
-fn numbers_at(list: &Wide, i: usize) -> u64
-    requires { i < length (written list.now) }
-    ensures value { result + last_digits (drop (i + 1) (written list.now)) ≡ last_digits (drop i (written list.now)) }
+// How many of them an innermost list has that ends with this monomial; none if it goes on with the next.
+fn numbers(term: Term, next: Option<Term>) -> u64
+    ensures value { MatchOption next (result ≡ term.key % 32 + 1) (λ after. result ≡ cond (term.key / 32 == after.key / 32) 0 (term.key % 32 + 1)) }
     ensures bound { result ≤ 32 }
 {
-    let key = list.term(i).key;
-    if i + 1 == list.len() {
-        return key % 32 + 1;
+    match next {
+        Some(next) if next.key / 32 == term.key / 32 => 0,
+        _ => term.key % 32 + 1,
     }
-    if list.term(i + 1).key / 32 == key / 32 {
-        return 0;
-    }
-    key % 32 + 1
 }

@@ -9,6 +9,7 @@ ghost use Rattle.storage.specs.Storing.{stored};
 
 use crate::modest::is_modest;
 use arena::arena::Arena;
+use packed::monomials::Monomials;
 use packed::term::Term;
 use wide::wide::Wide;
 
@@ -26,8 +27,8 @@ pub fn pack(list: &Wide, arena: &mut Arena) -> Result<usize, TooBig>
     if !is_modest(list) {
         return Err(TooBig);
     }
-    for i in 0..list.len() {
-        arena.put(cell(list.term(i)));
+    for term in list.terms() {
+        arena.put(cell(term));
     }
     Ok(list.len())
 }

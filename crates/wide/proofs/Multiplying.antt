@@ -1,14 +1,11 @@
 -- A product is added up from the last monomial of the first factor to the first. Assumes nothing.
-use Rattle.std.proofs.Common.{◌≡◌, ℕ, suc, ◌+◌, ◌-◌, ◌*◌, ◌^◌, ◌<◌, ◌≤◌, List, [], ◌∷◌, length, drop, ℤ, pos, negsuc, ◌*ℤ◌, neg_ℤ, sym, refl, ap, ◌∙◌, subst, ap₂, mul-le-mul_right, one-mul, arith, length-drop, drop_of_length-le}
+use Rattle.std.proofs.Common.{◌++◌, length-append, ◌≡◌, ℕ, suc, ◌+◌, ◌-◌, ◌*◌, ◌^◌, ◌<◌, ◌≤◌, List, [], ◌∷◌, length, ℤ, pos, negsuc, ◌*ℤ◌, neg_ℤ, sym, refl, ap, ◌∙◌, subst, ap₂, mul-le-mul_right, one-mul, arith}
 use Rattle.poly.specs.Modest.{magnitude}
 use Rattle.terms.specs.Monomial.{Monomial, monomial}
 use Rattle.terms.specs.Operations.{add_terms, scale_terms, add_product}
 use Rattle.terms.specs.Sizes.{KeysBelow, SizesAtMost}
 use Rattle.terms.proofs.Bounds.{length_scaled, length_product, keys_scaled, keys_product, sizes_scaled, sizes_modest_product}
-use Rattle.packed.specs.Terms.{term_at}
-use Rattle.packed.proofs.Leading.{from_place}
-use Rattle.packed.proofs.Places.{key_at, size_at}
-use Rattle.packed.proofs.Lowered.{drop-keys, drop-sizes}
+use Rattle.packed.proofs.Walked.{keys-next, sizes-next, keys-after, sizes-after}
 use Rattle.wide.specs.Merging.{Addable}
 use Rattle.wide.specs.Multiplying.{OneProduct}
 
@@ -18,12 +15,18 @@ pub record Factor (ts : List Monomial) : Type 0 where
   pub sizes : SizesAtMost (2 ^ 27 - 1) ts
   pub short : length ts ≤ 64
 
-drop-factor : (i : ℕ) (ts : List Monomial) → Factor ts → Factor (drop i ts)
-drop-factor i ts f = record { keys = drop-keys (2 ^ 19) i ts f.keys; sizes = drop-sizes (2 ^ 27 - 1) i ts f.sizes; short = omega (arith, length-drop i ts, f.short) }
+last-factor : (before ts p : List Monomial) → before ++ ts ≡ p → Factor p → Factor ts
+last-factor before ts p e f =
+    let g = subst Factor (sym e) f in
+    record {
+      keys = keys-after (2 ^ 19) before ts g.keys;
+      sizes = sizes-after (2 ^ 27 - 1) before ts g.sizes;
+      short = omega (arith, length-append before ts, g.short);
+    }
 
-pub product_none : (p q acc : List Monomial) (i : ℕ) → length p ≤ i → add_product (drop i p) q acc ≡ acc
+pub product_none : (q acc : List Monomial) → add_product [] q acc ≡ acc
 unfolding add_product
-product_none p q acc i h = ap (λ w. add_product w q acc) (drop_of_length-le p h)
+product_none q acc = refl
 
 product_cons : (m : Monomial) (ms q acc : List Monomial) → add_product (m ∷ ms) q acc ≡ add_terms (scale_terms m.key m.times q) (add_product ms q acc)
 unfolding add_product
@@ -39,34 +42,32 @@ unfolding SizesAtMost
 sizes_wide a b [] h k = tt
 sizes_wide a b (m ∷ ms) h k = let g = k.0 in (omega arith, sizes_wide a b ms h k.1)
 
-module _ (p q acc : List Monomial) (f : Factor p) (g : Factor q) (a : OneProduct acc) where
-  pub product-step : (j : ℕ) (m : Monomial) (list list' : List Monomial) → 0 < j → j ≤ length p → m ≡ term_at p (j - 1) → list ≡ add_product (drop j p) q acc →
-      list' ≡ add_terms (scale_terms m.key m.times q) list → list' ≡ add_product (drop (j - 1) p) q acc
-  product-step j m list list' h l e k n =
-      let back : j - 1 + 1 ≡ j = omega arith in
-      n ∙ ap₂ add_terms (ap (λ t. scale_terms t.key t.times q) e) k ∙ sym (product_cons (term_at p (j - 1)) (drop j p) q acc) ∙
-      ap (λ w. add_product w q acc) (ap (λ w. term_at p (j - 1) ∷ drop w p) (sym back) ∙ sym (from_place p (j - 1) (omega arith)))
+-- one more monomial of the first factor
+pub product-step : (q acc : List Monomial) (m : Monomial) (ms list list' : List Monomial) → list ≡ add_product ms q acc → list' ≡ add_terms (scale_terms m.key m.times q) list →
+    list' ≡ add_product (m ∷ ms) q acc
+product-step q acc m ms list list' k n = n ∙ ap (add_terms (scale_terms m.key m.times q)) k ∙ sym (product_cons m ms q acc)
 
+module _ (p q acc : List Monomial) (f : Factor p) (g : Factor q) (a : OneProduct acc) where
   one_size : (m : Monomial) → magnitude m.times ≤ 2 ^ 27 - 1 → SizesAtMost (2 ^ 54) (scale_terms m.key m.times q)
   one_size m h = sizes_wide (magnitude m.times * (2 ^ 27 - 1)) (2 ^ 54) _ (omega (arith, mul-le-mul_right {m = magnitude m.times} {n = 2 ^ 27 - 1} (2 ^ 27 - 1) h)) (sizes_scaled (2 ^ 27 - 1) m.key m.times q g.sizes)
 
-  pub product_addable : (j : ℕ) (m : Monomial) (list : List Monomial) → 0 < j → j ≤ length p → m ≡ term_at p (j - 1) → list ≡ add_product (drop j p) q acc →
+  pub product_addable : (before : List Monomial) (m : Monomial) (ms list : List Monomial) → before ++ m ∷ ms ≡ p → list ≡ add_product ms q acc →
       Addable (scale_terms m.key m.times q) list
-  product_addable j m list h l e k =
-      let d = drop-factor j p f in
-      let key : m.key < 2 ^ 19 = omega (arith, ap (λ t. t.key) e, key_at (2 ^ 19) p (j - 1) f.keys (omega arith)) in
-      let size : magnitude m.times ≤ 2 ^ 27 - 1 = omega (arith, ap (λ t. magnitude t.times) e, size_at (2 ^ 27 - 1) p (j - 1) f.sizes (omega arith)) in
+  product_addable before m ms list e k =
+      let l = last-factor before (m ∷ ms) p e f in
+      let keys = keys-next (2 ^ 19) (m ∷ ms) ms m refl l.keys in
+      let sizes = sizes-next (2 ^ 27 - 1) (m ∷ ms) ms m refl l.sizes in
+      let key = keys.0 in
+      let few : length ms ≤ 63 = omega (arith, l.short) in
       record {
         most_left = 2 ^ 54;
         most_right = 2 ^ 60 - 1 + (2 ^ 60 - 1);
         keys_left = keys_wider (m.key + 2 ^ 19) (2 ^ 63) _ (omega arith) (keys_scaled (2 ^ 19) m.key m.times q g.keys);
-        keys_right = subst (KeysBelow (2 ^ 63)) (sym k) (keys_wider (2 ^ 19 + 2 ^ 19) (2 ^ 63) _ (omega arith) (keys_product (2 ^ 19) (2 ^ 19) (drop j p) q acc d.keys g.keys a.keys));
-        sizes_left = one_size m size;
-        sizes_right = subst (SizesAtMost (2 ^ 60 - 1 + (2 ^ 60 - 1))) (sym k) (sizes_modest_product (2 ^ 60 - 1) (drop j p) q acc d.short d.sizes g.sizes a.sizes);
+        keys_right = subst (KeysBelow (2 ^ 63)) (sym k) (keys_wider (2 ^ 19 + 2 ^ 19) (2 ^ 63) _ (omega arith) (keys_product (2 ^ 19) (2 ^ 19) ms q acc keys.1 g.keys a.keys));
+        sizes_left = one_size m sizes.0;
+        sizes_right = subst (SizesAtMost (2 ^ 60 - 1 + (2 ^ 60 - 1))) (sym k) (sizes_modest_product (2 ^ 60 - 1) ms q acc (omega arith) sizes.1 g.sizes a.sizes);
         fit = omega arith;
-        room =
-            let few : length (drop j p) ≤ 63 = omega (arith, length-drop j p, f.short) in
-            omega (arith, length_scaled m.key m.times q, ap length k, length_product (drop j p) q acc, mul-le-mul_right {m = length (drop j p)} {n = 63} (length q) few, g.short, a.short);
+        room = omega (arith, length_scaled m.key m.times q, ap length k, length_product ms q acc, mul-le-mul_right {m = length ms} {n = 63} (length q) few, g.short, a.short);
       }
 
 -- nothing is at most one product

@@ -1,11 +1,10 @@
 -- The derivative of a list, a monomial at a time, and lists of one monomial. Assumes nothing.
-use Rattle.std.proofs.Common.{◌≡◌, ℕ, suc, ◌+◌, ◌-◌, ◌^◌, ◌<◌, ◌≤◌, true, false, List, [], ◌∷◌, ◌++◌, length, drop, ℤ, pos, sym, refl, ap, ◌∙◌, append_assoc, le-ltb, lt-ltb}
+use Rattle.std.proofs.Common.{◌≡◌, ℕ, suc, ◌-◌, ◌^◌, ◌<◌, ◌≤◌, true, false, List, [], ◌∷◌, ◌++◌, ℤ, pos, sym, refl, ap, ◌∙◌, le-ltb, lt-ltb}
 use Rattle.poly.specs.Poly.{is_zero_number}
 use Rattle.terms.specs.Monomial.{Monomial, monomial, constant_terms}
 use Rattle.terms.specs.Operations.{variable_terms}
 use Rattle.terms.specs.LeadingTerms.{slopes}
-use Rattle.packed.specs.Terms.{term_at}
-use Rattle.packed.proofs.Leading.{from_place}
+use Rattle.packed.proofs.Walked.{moved}
 use Rattle.wide.specs.Slopes.{slope_by}
 
 slopes_cons : (n : ℕ) (m : Monomial) (ms : List Monomial) → slopes n (m ∷ ms) ≡ slope_by (32 ^ n) m ∷ slopes n ms
@@ -17,11 +16,10 @@ unfolding slopes
 slopes_none n = refl
 
 -- one more of the derivative
-pub slopes-next : (n : ℕ) (ts out out' : List Monomial) (i : ℕ) (m : Monomial) → i < length ts → m ≡ slope_by (32 ^ n) (term_at ts i) → out' ≡ out ++ m ∷ [] →
-    out' ++ slopes n (drop (i + 1) ts) ≡ out ++ slopes n (drop i ts)
-slopes-next n ts out out' i m h e q =
-    ap (λ w. w ++ slopes n (drop (i + 1) ts)) q ∙ append_assoc out (m ∷ []) (slopes n (drop (i + 1) ts)) ∙
-    ap (λ w. out ++ w) (ap (λ x. x ∷ slopes n (drop (i + 1) ts)) e ∙ sym (slopes_cons n (term_at ts i) (drop (i + 1) ts)) ∙ ap (slopes n) (sym (from_place ts i h)))
+pub slopes-next : (n : ℕ) (left left' out out' : List Monomial) (m s : Monomial) → left ≡ m ∷ left' → s ≡ slope_by (32 ^ n) m → out' ≡ out ++ s ∷ [] →
+    out' ++ slopes n left' ≡ out ++ slopes n left
+slopes-next n left left' out out' m s e q f =
+    moved out out' (slopes n left) (slopes n left') s (ap (slopes n) e ∙ slopes_cons n m left' ∙ ap (λ x. x ∷ slopes n left') (sym q)) f
 
 pub constant_zero : (z : ℤ) → is_zero_number z ≡ true → constant_terms z ≡ []
 unfolding constant_terms

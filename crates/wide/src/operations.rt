@@ -11,6 +11,7 @@ ghost use Rattle.wide.specs.Written.{written};
 ghost use Rattle.wide.specs.Slopes.{slope_by};
 
 use crate::scratch::Scratch;
+use packed::monomials::Monomials;
 use packed::stretch::Stretch;
 use packed::term::Term;
 use packed::variables::Variables;
@@ -70,8 +71,8 @@ impl Scratch<'_> {
         ensures rising { Rising 0 (2 ^ 20) (written self.new.front) }
     {
         self.clear();
-        for i in 0..stretch.len() {
-            self.front.push(stretch.term(i));
+        for term in stretch.terms() {
+            self.front.push(term);
         }
     }
 
@@ -82,8 +83,8 @@ impl Scratch<'_> {
     {
         let place = others.digit_place();
         self.clear();
-        for i in polynomial.count_below(place)..polynomial.len() {
-            self.front.push(slope(polynomial.term(i), place));
+        for term in polynomial.terms_from(polynomial.count_below(place)) {
+            self.front.push(slope(term, place));
         }
     }
 

@@ -9,6 +9,7 @@ ghost use Rattle.wide.specs.Multiplying.{OneProduct};
 
 use crate::merge::add_scaled;
 use crate::wide::Wide;
+use packed::monomials::Monomials;
 use packed::stretch::Stretch;
 use packed::term::Term;
 use packed::view::View;
@@ -41,8 +42,8 @@ impl Scratch<'_> {
         requires { OneProduct (written self.old.front) }
         ensures { written self.new.front ≡ add_product (stretch_terms stretch.entry) (terms_in polynomial.entry) (written self.old.front) }
     {
-        for i in (0..stretch.len()).rev() {
-            self.add_scaled(stretch.term(i), polynomial);
+        for term in stretch.terms().rev() {
+            self.add_scaled(term, polynomial);
         }
     }
 }

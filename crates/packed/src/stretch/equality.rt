@@ -7,6 +7,7 @@ ghost use Rattle.packed.specs.StretchTerms.{stretch_terms};
 ghost use Rattle.packed.specs.Same.{same_terms-per, same_terms-equivalence};
 
 use super::Stretch;
+use crate::monomials::Monomials;
 
 impl PartialEq for Stretch<'_> {
     ghost eq = { on stretch_terms same_terms };
@@ -14,15 +15,7 @@ impl PartialEq for Stretch<'_> {
     ghost laws = { on_per stretch_terms same_terms-per };
 
     fn eq(&self, other: &Self) -> bool {
-        if self.len() != other.len() {
-            return false;
-        }
-        for i in 0..self.len() {
-            if self.term(i) != other.term(i) {
-                return false;
-            }
-        }
-        true
+        self.terms().eq(other.terms())
     }
 }
 

@@ -9,6 +9,7 @@ ghost use Rattle.packed.specs.StretchTerms.{stretch_terms};
 ghost use Rattle.packed.specs.Signed.{signed_number};
 
 use super::Stretch;
+use crate::monomials::Monomials;
 use crate::term::Term;
 use crate::variables::Variables;
 use crate::view::View;
@@ -93,5 +94,17 @@ impl Stretch<'_> {
         ensures size { magnitude result < 2 ^ 27 }
     {
         if self.negative { -x } else { x }
+    }
+}
+
+impl Monomials for Stretch<'_> {
+    ghost monomials = { stretch_terms };
+
+    fn len(&self) -> usize {
+        Stretch::len(self)
+    }
+
+    fn term(&self, i: usize) -> Term {
+        Stretch::term(self, i)
     }
 }

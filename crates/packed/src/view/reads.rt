@@ -8,6 +8,7 @@ ghost use Rattle.terms.specs.LeadingTerms.{last_key};
 ghost use Rattle.terms.specs.Cells.{monomials_of};
 
 use super::View;
+use crate::monomials::Monomials;
 use crate::term::Term;
 
 impl<'a> View<'a> {
@@ -54,5 +55,17 @@ impl View<'_> {
             [] => 0,
             [.., last] => Term::from(*last).key,
         }
+    }
+}
+
+impl Monomials for View<'_> {
+    ghost monomials = { terms_in };
+
+    fn len(&self) -> usize {
+        View::len(self)
+    }
+
+    fn term(&self, i: usize) -> Term {
+        View::term(self, i)
     }
 }

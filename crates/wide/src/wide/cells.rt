@@ -5,6 +5,7 @@ ghost use Rattle.packed.specs.Terms.{term_at, monomial_in};
 ghost use Rattle.wide.specs.Written.{written};
 
 use super::Wide;
+use packed::monomials::Monomials;
 use packed::term::Term;
 
 impl<'a> Wide<'a> {
@@ -62,8 +63,20 @@ impl Wide<'_> {
         requires keys { KeysBelow (2 ^ 63) (written list.now) }
         ensures { written self.new ≡ written self.old ++ drop from (written list.now) }
     {
-        for i in from..list.len() {
-            self.push(list.term(i));
+        for term in list.terms_from(from) {
+            self.push(term);
         }
+    }
+}
+
+impl Monomials for Wide<'_> {
+    ghost monomials = { written };
+
+    fn len(&self) -> usize {
+        Wide::len(self)
+    }
+
+    fn term(&self, i: usize) -> Term {
+        Wide::term(self, i)
     }
 }
