@@ -18,6 +18,7 @@ use wide::wide::Wide;
 pub struct TooBig;
 
 // Stores the list and says how many numbers that took, at most 64; or refuses it, and nothing has changed.
+// How much room an arena has differs from call to call, so each call asks for it; and the definitions speak of a top and of numbers, so clauses name the two apart.
 pub fn pack(list: &Wide, arena: &mut Arena) -> Result<usize, TooBig>
     requires rising { Rising 0 (2 ^ 20) (written list.now) }
     requires room { arena.old.top + 64 ≤ length arena.old.cells.now }
@@ -33,7 +34,7 @@ pub fn pack(list: &Wide, arena: &mut Arena) -> Result<usize, TooBig>
     Ok(list.len())
 }
 
-// The same, in place of what stands from a mark on.
+// The same, in place of what stands from a mark on; a list that is refused leaves the arena at the mark.
 pub fn pack_at(list: &Wide, arena: &mut Arena, mark: usize) -> Result<usize, TooBig>
     requires rising { Rising 0 (2 ^ 20) (written list.now) }
     requires room { (mark ≤ arena.old.top) × (mark + 64 ≤ length arena.old.cells.now) }
@@ -44,7 +45,7 @@ pub fn pack_at(list: &Wide, arena: &mut Arena, mark: usize) -> Result<usize, Too
     pack(list, arena)
 }
 
-// A monomial as one number.
+// A monomial as one number. No From, since that couldn't ask for a key and a coefficient that fit.
 fn cell(term: Term) -> i64
     requires { (term.key < 2 ^ 20) × (magnitude term.coefficient < 2 ^ 27) }
     ensures { result ≡ cell_of (monomial_in term) }

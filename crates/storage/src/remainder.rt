@@ -33,7 +33,8 @@ pub struct Quotient {
     pub rest: Span,
 }
 
-// A polynomial to divide by, in one variable and `others` more. The scratch and the arena stay two parameters: a step reads the arena while it writes the scratch, and then the other way round.
+// A polynomial to divide by, in one variable and `others` more.
+// The scratch and the arena are two parameters: each call in the bodies takes just one of them, so a struct of both would be taken apart in every line.
 #[derive(Clone, Copy)]
 pub struct Divisor {
     pub span: Span,
@@ -43,7 +44,7 @@ pub struct Divisor {
 
 impl Divisor {
     // The remainder of the dividend by a divisor that isn't zero, its sign exchanged where the count of steps is odd and the divisor's leading coefficient negative.
-    // That is a sum of the dividend's multiple by a positive number and a multiple of the divisor. What lies above the top is used, and the remainder lies there, or it is the dividend.
+    // It lies at the arena's old top, or is the dividend itself if there was no step; where a step isn't modest the arena is left at its old top.
     pub fn remainder(
         self,
         scratch: &mut Scratch,

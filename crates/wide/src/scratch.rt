@@ -15,6 +15,7 @@ use packed::term::Term;
 use packed::view::View;
 use std::mem::swap;
 
+// A list in front need not rise while a sum is made, so each operation says of its own list that it rises.
 #[derive(Drop)]
 pub struct Scratch<'a> {
     pub front: Wide<'a>,

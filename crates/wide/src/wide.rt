@@ -6,7 +6,7 @@ mod cells;
 // A step of a division adds up two products of 64 by 64 monomials.
 pub const ROOM: usize = 8192;
 
-// Lent memory holds numbers alone and its length is fixed, so keys and coefficients lie apart, with their count beside them.
+// Lent memory holds numbers alone and its length is fixed, so a list takes two lent slices, with their count beside them.
 #[derive(Drop)]
 pub struct Wide<'a> {
     keys: &'a mut [i64],
