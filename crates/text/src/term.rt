@@ -255,7 +255,7 @@ impl Source<'_> {
         }
     }
 
-    // Whether an arrow has been read behind the sum, which ends it.
+    // A sum; whether an arrow has been read behind it, which ends it.
     #[cycle(term_levels)]
     pub fn sum(&self, draft: &mut Draft, depth: usize, may_arrow: bool) -> Result<bool, Fault>
         ensures { WritesSum self.now (sum self.now.names.now (nest self.now.names.now depth) may_arrow) result draft.old draft.new }
