@@ -129,7 +129,7 @@ impl Source<'_> {
             if !is_digit(c) {
                 return number;
             }
-            let longer = number * 10 + (c - b'0') as u32;
+            let longer = number * 10 + u32::from(c - b'0');
             if longer > LARGEST {
                 return number;
             }
