@@ -1,5 +1,5 @@
 -- Each level of a term, by the levels that it calls.
-use Rattle.std.proofs.Common.{◌≡◌, ◌+◌, ◌-◌, true, false, not, ◌&&◌, eqb, [], ◌∷◌, ◌++◌, get_or, pos, sym, refl, ap, ◌∙◌, w64, SFits, rules}
+use Rattle.std.proofs.Common.{◌≡◌, ◌+◌, ◌-◌, true, false, not, ◌&&◌, eqb, [], ◌∷◌, ◌++◌, get_or, pos, sym, refl, ap, ◌∙◌, w64}
 use Rattle.std.proofs.lemmas.Int.{to_z-of_z}
 use Rattle.std.proofs.lemmas.Bool.{eq-eqb, ne_eqb, and_from, and_left, and_right}
 use Rattle.field.specs.Sentence.{Num, Sum, Product}
