@@ -209,6 +209,7 @@ impl Source<'_> {
     }
 
     // The summands behind a first one; whether an arrow has been read behind them.
+    // A bool, as the definition has it: whether an arrow may end the sum.
     #[cycle(term_levels)]
     pub fn plus(
         &self,
