@@ -1,15 +1,14 @@
--- Prefixes that are refused, and the words of their quantifiers.
-use Rattle.std.proofs.Common.{◌≡◌, ℕ, ◌+◌, ◌<◌, Bool, false, List, [], ◌∷◌, ◌++◌, map, length, get_or, take, ℤ, IsErrAnd, Ok, Err, Result, sym, refl, ap, ◌∙◌, add-one, take-suc}
-use Rattle.grammar.specs.declared.fault.Fault.{Fault}
+-- The names of quantifiers, and their words.
+use Rattle.std.proofs.Common.{◌≡◌, ℕ, ◌+◌, ◌<◌, Bool, false, List, [], ◌∷◌, ◌++◌, map, length, get_or, take, ℤ, sym, refl, ap, ◌∙◌, add-one, take-suc}
 use Rattle.grammar.specs.Meaning.{quantifier_word}
-use Rattle.grammar.specs.Reader.{Outcome, Refused, refusal_at}
-use Rattle.grammar.specs.Text.{Prefix}
-use Rattle.text.specs.declared.prefix.Prefix.{Prefix as Quantified}
-use Rattle.text.specs.Prefix.{PrefixShown}
+use Rattle.std.proofs.lemmas.List.{take-map}
+use Rattle.grammar.specs.declared.word.Word.{Word}
+use Rattle.text.specs.declared.bound.Prefix.{Prefix as Quantified}
+use Rattle.text.specs.Prefix.{name_of, prefix_of}
 
-pub prefix_refused : (counted : ℕ → Type 0) (o : Outcome Prefix) (r : Result Quantified Fault) (at : ℕ) (e : Fault) → o ≡ Refused (refusal_at e at) → IsErrAnd r (λ y. y ≡ e) → PrefixShown counted o r at
-prefix_refused counted o (Ok v) at e p q = absurd q
-prefix_refused counted o (Err f) at e p q = p ∙ ap (λ g. Refused (refusal_at g at)) (sym q)
+-- the names of as many quantifiers as are counted
+pub names_counted : (p : Quantified) (names : List Word) → names ≡ map name_of p.quantifiers → take p.count names ≡ (prefix_of p).names
+names_counted p names e = ap (take p.count) e ∙ take-map name_of p.count p.quantifiers
 
 map-behind : (qs : List Bool) (q : Bool) → map quantifier_word (qs ++ (q ∷ [])) ≡ map quantifier_word qs ++ (quantifier_word q ∷ [])
 map-behind [] q = refl

@@ -38,12 +38,6 @@ put-fits s w v xs same h held =
       written = λ _. (put.0, ap₂ (λ k u. set s.words k u) n same ∙ put.1);
     }
 
-pub put-over : (s : Sheet) (w : ℤ) (xs : List ℤ) → 1024 ≤ s.count → Holds s xs → Holds (record { words = s.words; count = 1025 }) (xs ++ (w ∷ []))
-put-over s w xs h held =
-    let counts = held.counted in
-    let long : length (xs ++ (w ∷ [])) ≡ length xs + 1 = length-append xs (w ∷ []) in
-    record { sized = held.sized; counted = omega arith; written = λ k. absurd (omega arith) }
-
 -- a part in the middle, and another in its place
 mid_seam : (xs ys zs : List ℤ) (k : ℕ) → k ≡ length ys → mid_of (length xs) k (xs ++ (ys ++ zs)) ≡ ys
 mid_seam xs ys zs k e = ap (take k) (drop-append_seam xs (ys ++ zs)) ∙ ap (λ n. take n (ys ++ zs)) e ∙ take-append_seam ys zs

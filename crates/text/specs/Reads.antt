@@ -1,5 +1,5 @@
 -- What a level's answer says, with the place where it stands and the words that it has written. Assumes nothing.
-use Rattle.std.specs.Prelude.{◌≡◌, ℕ, Bool, List, ◌++◌, ℤ, Ok, Err, Result}
+use Rattle.std.specs.Prelude.{◌≡◌, ℕ, Bool, false, List, ◌++◌, ℤ, Ok, Err, Result}
 use Rattle.field.specs.Sentence.{Term}
 use Rattle.grammar.specs.declared.fault.Fault.{Fault}
 use Rattle.grammar.specs.Meaning.{term_words}
@@ -21,6 +21,10 @@ TermShown after xs t _ = Holds after (xs ++ term_words t)
 -- the same of a sum, and whether an arrow has been read behind it
 abbrev pub SumShown : Sheet → List ℤ → Summed → Bool → Type 0
 SumShown after xs s arrow = (s.arrow ≡ arrow) × Holds after (xs ++ term_words s.term)
+
+-- a sum behind which no arrow has been read
+abbrev pub SummandShown : Sheet → List ℤ → Summed → Unit {0} → Type 0
+SummandShown after xs s _ = SumShown after xs s false
 
 -- what is read comes behind the words that the sheet holds
 abbrev pub Writes : {A V : Type 0} → (Sheet → List ℤ → A → V → Type 0) → Source → Reader A → Result V Fault → Draft → Draft → Type 0
@@ -44,3 +48,6 @@ WritesSum = Writes SumShown
 
 abbrev pub ExtendsSum : Source → (Term → Reader Summed) → Result Bool Fault → ℕ → Draft → Draft → Type 0
 ExtendsSum = Extends SumShown
+
+abbrev pub ExtendsSummand : Source → (Term → Reader Summed) → Result (Unit {0}) Fault → ℕ → Draft → Draft → Type 0
+ExtendsSummand = Extends SummandShown

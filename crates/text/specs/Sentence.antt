@@ -5,7 +5,7 @@ use Rattle.grammar.specs.Meaning.{quantifier_word, sentence_words}
 use Rattle.grammar.specs.Reader.{run}
 use Rattle.grammar.specs.Text.{sentence}
 use Rattle.text.specs.declared.draft.Draft.{Draft}
-use Rattle.text.specs.declared.prefix.Prefix.{Prefix}
+use Rattle.text.specs.declared.bound.Prefix.{Prefix}
 use Rattle.text.specs.declared.sheet.Sheet.{Sheet}
 use Rattle.text.specs.Prefix.{prefix_of}
 use Rattle.text.specs.Reads.{ReadAs}

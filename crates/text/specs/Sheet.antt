@@ -2,8 +2,9 @@
 use Rattle.std.specs.Prelude.{◌≡◌, ℕ, zero, suc, ◌≤◌, min, List, [], ◌∷◌, ◌++◌, length, ℤ, pos, negsuc}
 use Rattle.field.specs.Sentence.{Term, Formula}
 use Rattle.grammar.specs.declared.relation.Relation.{Relation}
-use Rattle.grammar.specs.Meaning.{difference, power, compared, equivalent, term_words, formula_words}
+use Rattle.grammar.specs.Meaning.{difference, power, compared, term_words, formula_words}
 use Rattle.text.specs.declared.row.Row.{Row}
+use Rattle.text.specs.declared.row.Row.TheVariants.{Equivalence}
 use Rattle.text.specs.declared.sheet.Sheet.{Sheet}
 use Rattle.text.specs.Row.{join_of}
 
@@ -73,12 +74,10 @@ Compares r from middle before after =
 abbrev pub Implies : ℕ → Sheet → Sheet → Type 0
 Implies from before after = (xs ys : List ℤ) → Behind xs from → Holds before (xs ++ ys) → Holds after (xs ++ (pos 5 ∷ pos 3 ∷ ys))
 
-abbrev pub Equates : ℕ → ℕ → Sheet → Sheet → Type 0
-Equates from middle before after =
-    (xs : List ℤ) (p q : Formula) → Behind xs from → Behind (xs ++ formula_words p) middle → Holds before (xs ++ (formula_words p ++ formula_words q)) →
-    Holds after (xs ++ formula_words (equivalent p q))
-
 abbrev pub Joins : Row → ℕ → ℕ → Sheet → Sheet → Type 0
 Joins row from middle before after =
     (xs : List ℤ) (p q : Formula) → Behind xs from → Behind (xs ++ formula_words p) middle → Holds before (xs ++ (formula_words p ++ formula_words q)) →
     Holds after (xs ++ formula_words (join_of row p q))
+
+abbrev pub Equates : ℕ → ℕ → Sheet → Sheet → Type 0
+Equates = Joins Equivalence

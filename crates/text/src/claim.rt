@@ -1,4 +1,4 @@
-// A formula that has been read. Where a formula may stand, none says that a term was read.
+// A formula that has been read; `None` in place of one says that a term was read.
 #[derive(Clone, Copy, PartialEq, Eq, Debug)]
 pub struct Claim {
     // whether an arrow has been read behind it

@@ -1,6 +1,7 @@
 // The reader of texts: one pass, a method for each level of binding.
 #![tactic(auto)]
 
+pub mod bound;
 pub mod character;
 pub mod claim;
 pub mod draft;

@@ -1,33 +1,19 @@
 // The quantifiers of a sentence, with their names.
-ghost use Rattle.std.specs.Prelude.{◌≡◌, ◌+◌, ◌≤◌, map, slice_index};
+ghost use Rattle.std.specs.Prelude.{◌≡◌, ◌+◌, ◌≤◌, IfOk, map, slice_index};
 ghost use Rattle.std.specs.Result.{result_map_both};
 ghost use Rattle.grammar.specs.Reader.{run};
 ghost use Rattle.grammar.specs.Text.{quantifier_of, prefix_next, is_quantifier_letter, quantifiers};
 ghost use Rattle.grammar.specs.Tokens.{new_name};
 ghost use Rattle.words.specs.Quantifier.{over_all};
 ghost use Rattle.text.specs.Outcome.{outcome_of};
-ghost use Rattle.text.specs.Prefix.{name_of, prefix_of, Longer, PrefixRead, PrefixReads};
+ghost use Rattle.text.specs.Prefix.{name_of, prefix_of, Longer};
 
+use crate::bound::{Bound, Prefix};
 use crate::source::{Source, position};
 use crate::term::is_reserved;
 use grammar::fault::Fault;
 use grammar::word::Word;
 use words::quantifier::Quantifier;
-
-// A quantifier with the name that it binds.
-#[derive(Clone, Copy)]
-pub struct Bound {
-    pub quantifier: Quantifier,
-    pub name: Word,
-}
-
-// At most four quantifiers, in fixed memory.
-#[derive(Clone, Copy)]
-pub struct Prefix {
-    // the innermost first, as many as are counted
-    pub quantifiers: [Bound; 4],
-    pub count: usize,
-}
 
 impl Prefix {
     // One quantifier more, the innermost.
@@ -89,7 +75,8 @@ impl Source<'_> {
 // A quantifier more, with its name.
 fn prefix_next(text: &[u8], at: &mut usize, prefix: Prefix) -> Result<Prefix, Fault>
     requires { prefix.count ≤ 3 }
-    ensures { PrefixRead (prefix.count + 1) (run (prefix_next (prefix_of prefix)) text.now at.old) result at.new }
+    ensures value { run (prefix_next (prefix_of prefix)) text.now at.old ≡ outcome_of (result_map_both prefix_of (λ fault. fault) result) at.new }
+    ensures count { IfOk result (λ longer. longer.count ≡ prefix.count + 1) }
 {
     let names = prefix.names();
     let source = Source {
@@ -110,7 +97,7 @@ fn begins_quantifier(c: u8) -> bool
 
 // At most four quantifiers.
 pub fn quantifiers(text: &[u8], at: &mut usize) -> Result<Prefix, Fault>
-    ensures { PrefixReads (run quantifiers text.now at.old) result at.new }
+    ensures { run quantifiers text.now at.old ≡ outcome_of (result_map_both prefix_of (λ fault. fault) result) at.new }
 {
     let none = Bound {
         quantifier: Quantifier::Exists,

@@ -14,7 +14,7 @@ pub enum Row {
 
 impl Row {
     // The first character of what joins the formulas.
-    pub fn first(self) -> u8
+    pub(crate) fn first(self) -> u8
         ensures { result ≡ first_of self }
     {
         match self {

@@ -4,8 +4,9 @@ ghost use Rattle.grammar.specs.Reader.{run};
 ghost use Rattle.grammar.specs.Text.{sentence};
 ghost use Rattle.text.specs.Sentence.{Announces, WritesSentence};
 
+use crate::bound::Prefix;
 use crate::draft::Draft;
-use crate::prefix::{Prefix, quantifiers};
+use crate::prefix::quantifiers;
 use crate::row::Row;
 use crate::sheet::Sheet;
 use crate::source::Source;
@@ -16,7 +17,6 @@ pub const DEEPEST: usize = 200;
 
 // How many quantifiers there are, and these.
 fn announce(sheet: &mut Sheet, prefix: Prefix)
-    requires { prefix.count ≤ 4 }
     ensures { Announces prefix sheet.old sheet.new }
 {
     sheet.put(prefix.count as i64);

@@ -47,14 +47,14 @@ impl Sheet {
         }
     }
 
-    // A kind at the end.
+    // The word of a kind at the end.
     pub fn put_kind(&mut self, kind: Kind)
         ensures { Puts (kind_word kind) self.old self.new }
     {
         self.put(kind.into());
     }
 
-    // A kind in front of the words that begin at `from`.
+    // The word of a kind in front of the words that begin at `from`.
     pub fn insert_kind(&mut self, from: usize, kind: Kind)
         ensures { Inserts from (kind_word kind) self.old self.new }
     {
@@ -77,7 +77,7 @@ impl Sheet {
         if to > CAPACITY {
             return;
         }
-        // by index, since `put` writes to the words that are read; copy_within would need its tests of room again
+        // by index, since `put` writes to the words that are read; copy_within would need `put`'s test of room again
         for i in from..to {
             self.put(self.words[i]);
         }

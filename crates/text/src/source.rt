@@ -8,7 +8,7 @@ use crate::character::{is_blank, is_digit, is_letter};
 use grammar::fault::Fault;
 use grammar::word::Word;
 
-// How many characters a text may have, and so how many turns a loop can take.
+// How many characters a text may have, and so how many turns a loop can take: the definitions read by as many turns, and no count is used.
 pub const LONGEST: usize = 65536;
 
 // The largest number that a text may have.
@@ -129,7 +129,7 @@ impl Source<'_> {
             if !is_digit(c) {
                 return number;
             }
-            let longer = number * 10 + (c - b'0') as u32;
+            let longer = number * 10 + u32::from(c - b'0');
             if longer > LARGEST {
                 return number;
             }

@@ -5,7 +5,7 @@ ghost use Rattle.grammar.specs.Characters.{is_reserved};
 ghost use Rattle.grammar.specs.Nesting.{nest};
 ghost use Rattle.grammar.specs.Reader.{run};
 ghost use Rattle.grammar.specs.Terms.{named, grouped, primary_of, is_exponent, raised, factor, times_next, times, product, taken, added, summand_of, is_summand_sign, plus, negated, leading_of, sum};
-ghost use Rattle.text.specs.Reads.{WritesTerm, ExtendsTerm, WritesSum, ExtendsSum};
+ghost use Rattle.text.specs.Reads.{WritesTerm, ExtendsTerm, WritesSum, ExtendsSum, ExtendsSummand};
 
 use crate::character::{is_digit, is_letter};
 use crate::draft::Draft;
@@ -92,7 +92,7 @@ impl Source<'_> {
             c if is_digit(c) => {
                 let number = self.number(&mut draft.at);
                 draft.sheet.put_kind(Kind::Number);
-                draft.sheet.put(number as i64);
+                draft.sheet.put(i64::from(number));
                 Ok(())
             }
             _ => self.group(draft, depth),
@@ -162,26 +162,26 @@ impl Source<'_> {
 
     // What is taken away, behind a minus.
     #[cycle(term_levels)]
-    fn taken(&self, draft: &mut Draft, depth: usize, from: usize) -> Result<bool, Fault>
-        ensures { ExtendsSum self.now (taken self.now.names.now (nest self.now.names.now depth)) result from draft.old draft.new }
+    fn taken(&self, draft: &mut Draft, depth: usize, from: usize) -> Result<(), Fault>
+        ensures { ExtendsSummand self.now (taken self.now.names.now (nest self.now.names.now depth)) result from draft.old draft.new }
     {
         self.blanks(&mut draft.at);
         let middle = draft.sheet.count;
         self.product(draft, depth)?;
         draft.sheet.negate(middle);
         draft.sheet.insert_kind(from, Kind::Sum);
-        Ok(false)
+        Ok(())
     }
 
     // What is added.
     #[cycle(term_levels)]
-    fn added(&self, draft: &mut Draft, depth: usize, from: usize) -> Result<bool, Fault>
-        ensures { ExtendsSum self.now (added self.now.names.now (nest self.now.names.now depth)) result from draft.old draft.new }
+    fn added(&self, draft: &mut Draft, depth: usize, from: usize) -> Result<(), Fault>
+        ensures { ExtendsSummand self.now (added self.now.names.now (nest self.now.names.now depth)) result from draft.old draft.new }
     {
         self.sign(&mut draft.at, b"+")?;
         self.product(draft, depth)?;
         draft.sheet.insert_kind(from, Kind::Sum);
-        Ok(false)
+        Ok(())
     }
 
     // A summand more, or the arrow that ends the sum.
@@ -196,17 +196,20 @@ impl Source<'_> {
         ensures { ExtendsSum self.now (λ t. summand_of self.now.names.now (nest self.now.names.now depth) may_arrow t (slice_index self.now.text.now draft.old.at)) result from draft.old draft.new }
     {
         if self.front(draft.at) == b'+' {
-            return self.added(draft, depth, from);
+            self.added(draft, depth, from)?;
+            return Ok(false);
         }
         self.pass(&mut draft.at);
         if may_arrow && self.front(draft.at) == b'>' {
             self.sign(&mut draft.at, b">")?;
             return Ok(true);
         }
-        self.taken(draft, depth, from)
+        self.taken(draft, depth, from)?;
+        Ok(false)
     }
 
     // The summands behind a first one; whether an arrow has been read behind them.
+    // A bool, as the definition has it: whether an arrow may end the sum.
     #[cycle(term_levels)]
     pub fn plus(
         &self,
@@ -255,7 +258,7 @@ impl Source<'_> {
         }
     }
 
-    // Whether an arrow has been read behind the sum, which ends it.
+    // A sum; whether an arrow has been read behind it, which ends it.
     #[cycle(term_levels)]
     pub fn sum(&self, draft: &mut Draft, depth: usize, may_arrow: bool) -> Result<bool, Fault>
         ensures { WritesSum self.now (sum self.now.names.now (nest self.now.names.now depth) may_arrow) result draft.old draft.new }

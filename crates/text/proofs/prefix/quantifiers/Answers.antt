@@ -2,7 +2,8 @@
 use Rattle.std.proofs.Common.{ap, sym, refl, ◌∙◌, arith}
 use Rattle.grammar.specs.Text.{is_quantifier_letter, prefix_for, quantifiers}
 use Rattle.grammar.proofs.Runs.{while_goes, while_stops, while-ended, while-over}
-use Rattle.text.proofs.Prefixes.{prefix_refused}
+use Rattle.text.specs.Prefix.{prefix_of}
+use Rattle.text.proofs.Exits.{handed_on_as}
 use Rattle.text.proofs.prefix.quantifiers.Goals as goal
 
 pub loop-turn-init : goal.loop-turn-init
@@ -11,26 +12,23 @@ loop-turn-init c = (refl, refl)
 
 pub returns-then-not-begins_quantifier : goal.returns-then-not-begins_quantifier
 unfolding prefix_for
-returns-then-not-begins_quantifier c = (
-  c.loop-turn.invariant.0 ∙ while-ended _ _ _ _ _ _
-      (ap is_quantifier_letter (sym c.front.ensures) ∙ sym c.if-not-begins_quantifier.ensures),
-  omega (arith, c.loop-turn.invariant.1, c.loop-turn-test.true),
-)
+returns-then-not-begins_quantifier c =
+    c.loop-turn.invariant.0 ∙ while-ended _ _ _ _ _ _
+    (ap is_quantifier_letter (sym c.front.ensures) ∙ sym c.if-not-begins_quantifier.ensures)
 
 pub returns-in_err-prefix : goal.returns-in_err-prefix
 unfolding prefix_for
 returns-in_err-prefix c =
     let begins = ap is_quantifier_letter (sym c.front.ensures) ∙ sym c.if-not-begins_quantifier.ensures in
-    prefix_refused _ _ c.from_residual.result _ _ (c.loop-turn.invariant.0 ∙ while_stops _ _ _ _ _ _ _ _ c.loop-turn-test.true begins c.in_err-prefix.ensures) c.from_residual.ensures.1
+    c.loop-turn.invariant.0 ∙ while_stops _ _ _ _ _ _ _ _ c.loop-turn-test.true begins c.in_err-prefix.ensures.value ∙ handed_on_as prefix_of c.from_residual.result _ _ c.from_residual.ensures.1
 
 pub loop-turn-preserved : goal.loop-turn-preserved
 unfolding prefix_for
 loop-turn-preserved c =
     let begins = ap is_quantifier_letter (sym c.front.ensures) ∙ sym c.if-not-begins_quantifier.ensures in
     let n = c.in_ok-prefix.ensures in
-    (c.loop-turn.invariant.0 ∙ while_goes _ _ _ _ _ _ _ _ _ c.loop-turn-test.true begins n.0, omega (arith, n.1, c.loop-turn.invariant.1))
+    (c.loop-turn.invariant.0 ∙ while_goes _ _ _ _ _ _ _ _ _ c.loop-turn-test.true begins n.value, omega (arith, n.count, c.loop-turn.invariant.1))
 
 pub returns : goal.returns
 unfolding prefix_for
-returns c =
-    (c.loop-turn.invariant.0 ∙ while-over _ _ _ _ _ _ _ c.loop-turn-test.false, omega (arith, c.loop-turn.invariant.1, c.loop-turn.auto))
+returns c = c.loop-turn.invariant.0 ∙ while-over _ _ _ _ _ _ _ c.loop-turn-test.false

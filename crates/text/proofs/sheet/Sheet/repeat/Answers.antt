@@ -1,17 +1,8 @@
 -- The words are put at the end one by one.
 use Rattle.std.proofs.Common.{◌≡◌, ◌+◌, ◌-◌, ◌≤◌, ◌++◌, length, get_or, pos, ap, arith, length-append, take_all, w64, SFits, rules}
 use Rattle.std.proofs.lemmas.Int.{to_z-of_z}
-use Rattle.text.proofs.Sheets.{too_many, same_words, repeated}
+use Rattle.text.proofs.Sheets.{same_words, repeated}
 use Rattle.text.proofs.sheet.Sheet.repeat.Goals as goal
-
-pub returns-then-to-gt-CAPACITY : goal.returns-then-to-gt-CAPACITY
-returns-then-to-gt-CAPACITY c xs ys zs begins ends held =
-    let front : length (xs ++ ys) ≡ length xs + length ys = length-append xs ys in
-    let one : length (xs ++ (ys ++ zs)) ≡ length xs + length (ys ++ zs) = length-append xs (ys ++ zs) in
-    let two : length (ys ++ zs) ≡ length ys + length zs = length-append ys zs in
-    let three : length (xs ++ (ys ++ (zs ++ ys))) ≡ length xs + length (ys ++ (zs ++ ys)) = length-append xs (ys ++ (zs ++ ys)) in
-    let four : length (ys ++ (zs ++ ys)) ≡ length ys + length (zs ++ ys) = length-append ys (zs ++ ys) in
-    too_many _ (xs ++ (ys ++ zs)) (xs ++ (ys ++ (zs ++ ys))) (omega (arith, c.if-to-gt-CAPACITY.true)) (omega (arith, c.if-to-gt-CAPACITY.true)) held
 
 pub loop-i-preserved : goal.loop-i-preserved
 loop-i-preserved c xs ys zs begins ends held =

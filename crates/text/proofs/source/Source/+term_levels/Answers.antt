@@ -1,5 +1,5 @@
 -- Each level of a term, by the levels that it calls.
-use Rattle.std.proofs.Common.{◌≡◌, ◌+◌, ◌-◌, true, false, not, ◌&&◌, eqb, [], ◌∷◌, ◌++◌, get_or, pos, sym, refl, ap, ◌∙◌, w64, SFits, rules}
+use Rattle.std.proofs.Common.{◌≡◌, ◌+◌, ◌-◌, true, false, not, ◌&&◌, eqb, [], ◌∷◌, ◌++◌, get_or, pos, sym, refl, ap, ◌∙◌, w64}
 use Rattle.std.proofs.lemmas.Int.{to_z-of_z}
 use Rattle.std.proofs.lemmas.Bool.{eq-eqb, ne_eqb, and_from, and_left, and_right}
 use Rattle.field.specs.Sentence.{Num, Sum, Product}
@@ -153,20 +153,36 @@ plus-returns m c xs t begins held =
     let i = c.loop-turn.invariant xs t begins held in
     (record { term = i.0; arrow = false }, i.1 ∙ while-over _ _ _ _ _ _ _ c.loop-turn-test.false, (refl, i.2))
 
+pub plus_next-returns-in_err-added : goal.plus_next-returns-in_err-added
+unfolding summand_of
+plus_next-returns-in_err-added m c xs t begins held =
+    refused_by _ _ c.from_residual.result _ _ (chose _ _ _ _ _ (eq-eqb _ 43 (sym c.front.ensures ∙ c.if-front-eq43.true)) ∙ c.in_err-added.ensures xs t begins held) c.from_residual.ensures.1
+
 pub plus_next-returns-then-front-eq43 : goal.plus_next-returns-then-front-eq43
 unfolding summand_of
 plus_next-returns-then-front-eq43 m c xs t begins held =
-    read_by _ _ _ c.added.result _ (chose _ _ _ _ _ (eq-eqb _ 43 (sym c.front.ensures ∙ c.if-front-eq43.true))) (c.added.ensures xs t begins held)
+    let s = c.in_ok-added.ensures xs t begins held in
+    (s.0, chose _ _ _ _ _ (eq-eqb _ 43 (sym c.front.ensures ∙ c.if-front-eq43.true)) ∙ s.1, s.2)
 
 pub plus_next-returns-in_err-sign : goal.plus_next-returns-in_err-sign
 unfolding summand_of taken_of run
 plus_next-returns-in_err-sign m c xs t begins held =
-    refused_by _ _ c.from_residual.result _ _ (passed_over _ _ _ _ _ (ne_eqb _ 43 (λ e. c.if-front-eq43.false (c.front.ensures ∙ e))) ∙ ap (λ n. run (Look (taken_of c.args.self.now.names.now (nest c.args.self.now.names.now c.args.depth) c.args.may_arrow t)) c.args.self.now.text.now n) (sym c.pass.ensures) ∙ chose _ _ _ _ _ (and_from _ _ c.if-may_arrow.true (eq-eqb _ 62 (sym c.front-then-may_arrow.ensures ∙ c.if-front-eq62.true))) ∙ stops _ _ _ _ _ c.in_err-sign.ensures) c.from_residual.ensures.1
+    refused_by _ _ c.from_residual-in_err-sign.result _ _ (passed_over _ _ _ _ _ (ne_eqb _ 43 (λ e. c.if-front-eq43.false (c.front.ensures ∙ e))) ∙ ap (λ n. run (Look (taken_of c.args.self.now.names.now (nest c.args.self.now.names.now c.args.depth) c.args.may_arrow t)) c.args.self.now.text.now n) (sym c.pass.ensures) ∙ chose _ _ _ _ _ (and_from _ _ c.if-may_arrow.true (eq-eqb _ 62 (sym c.front-then-may_arrow.ensures ∙ c.if-front-eq62.true))) ∙ stops _ _ _ _ _ c.in_err-sign.ensures) c.from_residual-in_err-sign.ensures.1
 
 pub plus_next-returns-then-front-eq62 : goal.plus_next-returns-then-front-eq62
 unfolding summand_of taken_of run
 plus_next-returns-then-front-eq62 m c xs t begins held =
     (record { term = t; arrow = true }, passed_over _ _ _ _ _ (ne_eqb _ 43 (λ e. c.if-front-eq43.false (c.front.ensures ∙ e))) ∙ ap (λ n. run (Look (taken_of c.args.self.now.names.now (nest c.args.self.now.names.now c.args.depth) c.args.may_arrow t)) c.args.self.now.text.now n) (sym c.pass.ensures) ∙ chose _ _ _ _ _ (and_from _ _ c.if-may_arrow.true (eq-eqb _ 62 (sym c.front-then-may_arrow.ensures ∙ c.if-front-eq62.true))) ∙ goes_on _ _ _ _ _ _ c.in_ok-sign.ensures, (refl, held))
+
+pub plus_next-returns-in_err-taken : goal.plus_next-returns-in_err-taken
+unfolding summand_of taken_of run
+plus_next-returns-in_err-taken m c xs t begins held =
+    let no-arrow : (c.args.may_arrow && eqb (get_or c.args.self.now.text.now c.pass.new.at 0) 62) ≡ false =
+    elim c.else-may_arrow.branch [
+      | plus_next-else-may_arrow-via-then-may_arrow+else-front-eq62 v ↦ and_right _ _ (ne_eqb _ 62 (λ e. v.if-front-eq62.false (v.front-then-may_arrow.ensures ∙ e)))
+      | plus_next-else-may_arrow-via-else-may_arrow v ↦ and_left _ _ v.if-may_arrow.false
+    ] in
+    refused_by _ _ c.from_residual-in_err-taken.result _ _ (passed_over _ _ _ _ _ (ne_eqb _ 43 (λ e. c.if-front-eq43.false (c.front.ensures ∙ e))) ∙ ap (λ n. run (Look (taken_of c.args.self.now.names.now (nest c.args.self.now.names.now c.args.depth) c.args.may_arrow t)) c.args.self.now.text.now n) (sym c.pass.ensures) ∙ passed_over _ _ _ _ _ no-arrow ∙ c.in_err-taken.ensures xs t begins held) c.from_residual-in_err-taken.ensures.1
 
 pub plus_next-returns : goal.plus_next-returns
 unfolding summand_of taken_of run
@@ -176,7 +192,8 @@ plus_next-returns m c xs t begins held =
       | plus_next-else-may_arrow-via-then-may_arrow+else-front-eq62 v ↦ and_right _ _ (ne_eqb _ 62 (λ e. v.if-front-eq62.false (v.front-then-may_arrow.ensures ∙ e)))
       | plus_next-else-may_arrow-via-else-may_arrow v ↦ and_left _ _ v.if-may_arrow.false
     ] in
-    read_by _ _ _ c.taken.result _ (passed_over _ _ _ _ _ (ne_eqb _ 43 (λ e. c.if-front-eq43.false (c.front.ensures ∙ e))) ∙ ap (λ n. run (Look (taken_of c.args.self.now.names.now (nest c.args.self.now.names.now c.args.depth) c.args.may_arrow t)) c.args.self.now.text.now n) (sym c.pass.ensures) ∙ passed_over _ _ _ _ _ no-arrow) (c.taken.ensures xs t begins held)
+    let s = c.in_ok-taken.ensures xs t begins held in
+    (s.0, passed_over _ _ _ _ _ (ne_eqb _ 43 (λ e. c.if-front-eq43.false (c.front.ensures ∙ e))) ∙ ap (λ n. run (Look (taken_of c.args.self.now.names.now (nest c.args.self.now.names.now c.args.depth) c.args.may_arrow t)) c.args.self.now.text.now n) (sym c.pass.ensures) ∙ passed_over _ _ _ _ _ no-arrow ∙ s.1, s.2)
 
 pub primary-returns-in_err-word : goal.primary-returns-in_err-word
 unfolding primary_of
@@ -193,9 +210,8 @@ unfolding primary_of run term_words
 primary-returns-then-is_digit m c xs held = (
   Num (pos c.number-number.result),
   passed_over _ _ _ _ _ (ap is_letter (sym c.front-c.ensures) ∙ sym c.if-is_letter.ensures) ∙ chose _ _ _ _ _ (ap is_digit (sym c.front-c.ensures) ∙ sym c.if-is_digit.ensures) ∙ goes_on _ _ _ _ _ _ c.number-number.ensures,
-  let fits : SFits w64 (pos c.number-number.result) = search rules in
-      regrouped _ xs _ _
-      (same_words _ _ _ (ap (λ u. (xs ++ (pos 7 ∷ [])) ++ (u ∷ [])) (to_z-of_z w64 (pos c.number-number.result) fits)) (c.put.ensures (xs ++ (pos 7 ∷ [])) (c.put_kind.ensures xs held))),
+  regrouped _ xs _ _
+      (same_words _ _ _ (ap (λ u. (xs ++ (pos 7 ∷ [])) ++ (u ∷ [])) (to_z-of_z w64 c.from.result (record { sfits = c.from.type_inv }) ∙ c.from.ensures)) (c.put.ensures (xs ++ (pos 7 ∷ [])) (c.put_kind.ensures xs held))),
 )
 
 pub primary-returns-else-is_digit : goal.primary-returns-else-is_digit

@@ -22,9 +22,6 @@ returns-in_default c xs held =
     stops _ _ _ _ _ (passed_over _ _ _ _ _ (sym c.if-is_reserved.ensures) ∙
     ap (λ o. run (elim o [ None ↦ Refuse (Wrong c.args.word.length) | Some i ↦ blanks >> Give i ]) c.args.self.now.text.now c.args.draft.now.at) (sym c.in_default.ensures.value))
 
-pub overflow_cast-i : goal.overflow_cast-i
-overflow_cast-i c = search rules
-
 pub returns : goal.returns
 unfolding named variable run term_words
 returns c xs held = (
