@@ -42,11 +42,12 @@ impl Polynomials<'_> {
         None
     }
 
-    // What the first `len` facts tell, the newest first.
+    // What the first `len` facts tell, the newest first. The facts lie in a longer lent array, of which `len` are in use.
     fn among_facts(&self, facts: &[i64], front: Front, len: u16) -> Option<Sign>
         ensures { known_of result ≡ among self.now.others.count (leading_of self.now.others.count (front_poly self.now.others.count self.now.slots.now front.slot front.count)) (back (λ i. fact_from self.now.others.count self.now.slots.now (fact_in facts.now i)) len) }
     {
         let leading = self.leading(front);
+        // A loop: with `find_map` the proof didn't close, since what that promises speaks of its chain of calls and not of the facts.
         for i in (0..len).rev() {
             if let Some(sign) = self.told(leading, read(facts, i)) {
                 return Some(sign);
