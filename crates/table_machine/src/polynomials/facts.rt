@@ -47,13 +47,9 @@ impl Polynomials<'_> {
         ensures { known_of result ≡ among self.now.others.count (leading_of self.now.others.count (front_poly self.now.others.count self.now.slots.now front.slot front.count)) (back (λ i. fact_from self.now.others.count self.now.slots.now (fact_in facts.now i)) len) }
     {
         let leading = self.leading(front);
-        // A loop: with `find_map` the proof didn't close, since what that promises speaks of its chain of calls and not of the facts.
-        for i in (0..len).rev() {
-            if let Some(sign) = self.told(leading, read(facts, i)) {
-                return Some(sign);
-            }
-        }
-        None
+        (0..len)
+            .rev()
+            .find_map(|i| self.told(leading, read(facts, i)))
     }
 
     // What is known of the sign of a leading coefficient, by the first `len` facts. With no variables left it is a number, which has its sign.
