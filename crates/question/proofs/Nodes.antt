@@ -4,9 +4,8 @@ use Rattle.std.proofs.lemmas.Bool.{cond-true}
 use Rattle.std.proofs.lemmas.Bool.Decides.{nat_tests}
 use Rattle.std.proofs.lemmas.List.{get_or-drop}
 use Rattle.question.specs.declared.tree.Tree.TheVariants.{Question as Numbered}
-use Rattle.question.specs.declared.tree.Question.{Question}
-use Rattle.question.specs.Cells.{cell_of, tree_at, small_of}
-use Rattle.question.specs.Nodes.{node_of, node_cells, node_at, weight_of}
+use Rattle.question.specs.Cells.{tree_at, small_of}
+use Rattle.question.specs.Nodes.{node_of, node_at, weight_of}
 
 -- the part of the numbers that a question takes, of those that stand
 pub node_in-part : (top : ℕ) (cells : List ℤ) (i : ℕ) → 5 * i + 5 ≤ top → node_of (take 5 (drop (5 * i) cells)) ≡ node_at (take top cells) i
@@ -25,14 +24,6 @@ node_in-part top cells i h =
 
 pub small_of_small : (n : ℕ) → n < 65536 → small_of (pos n) ≡ n
 small_of_small n h = grind (arith, nat_tests)
-
--- the numbers of a question read back
-pub node_back : (q : Question) → q.polynomial < 65536 → q.weight < 65536 → tree_at (cell_of q.below) ≡ q.below → tree_at (cell_of q.at) ≡ q.at → tree_at (cell_of q.above) ≡ q.above →
-    node_of (node_cells q) ≡ q
-node_back q few light below at above =
-    let polynomial = small_of_small q.polynomial few in
-    let weight = small_of_small q.weight light in
-    λ j. record { polynomial = polynomial j; below = below j; at = at j; above = above j; weight = weight j }
 
 pub weight-inside : (cells : List ℤ) (i : ℕ) → 5 * i + 5 ≤ length cells → weight_of cells (Numbered i) ≡ (node_at cells i).weight
 weight-inside cells i h = cond-true (leb (5 * i + 5) (length cells)) (node_at cells i).weight 0 (le-leb (5 * i + 5) (length cells) h)

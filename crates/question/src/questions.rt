@@ -11,6 +11,7 @@ pub const MOST: u16 = 3500;
 #[derive(Drop)]
 pub struct Questions<'a> {
     arena: Arena<'a>,
+    // A field, since each look would otherwise divide the arena's top by the width.
     len: usize,
     ghost whole: { arena.top ≡ 5 * len },
 }

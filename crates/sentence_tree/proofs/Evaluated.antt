@@ -7,13 +7,6 @@ use Rattle.words.specs.Reading.{Reading, Refused, Read, then, two}
 use Rattle.sentence_tree.specs.Placed.{Placed}
 use Rattle.sentence_tree.specs.Evaluated.{Evaluates}
 
-pub two_refused_left : {A B : Type 0} (make : A → A → B) (go : List ℤ → Reading A) (zs : List ℤ) → go zs ≡ Refused → two make go zs ≡ Refused
-two_refused_left make go zs e = ap (λ m. then m (λ a rest. then (go rest) (λ b more. Read (make a b) more))) e
-
-pub two_refused_right : {A B : Type 0} (make : A → A → B) (go : List ℤ → Reading A) (zs rest : List ℤ) (a : A) → go zs ≡ Read a rest → go rest ≡ Refused → two make go zs ≡ Refused
-two_refused_right make go zs rest a e f =
-    ap (λ m. then m (λ x ys. then (go ys) (λ b more. Read (make x b) more))) e ∙ ap (λ m. then m (λ b more. Read (make a b) more)) f
-
 pub two-read : {A B : Type 0} (make : A → A → B) (go : List ℤ → Reading A) (zs rest more : List ℤ) (a b : A) → go zs ≡ Read a rest → go rest ≡ Read b more → two make go zs ≡ Read (make a b) more
 two-read make go zs rest more a b e f =
     ap (λ m. then m (λ x ys. then (go ys) (λ y zs. Read (make x y) zs))) e ∙ ap (λ m. then m (λ y zs. Read (make a y) zs)) f

@@ -1,5 +1,5 @@
 // Operations of terms: their polynomials at the top of an arena, or none where one isn't modest.
-// The scratch and the arena are two parameters: with both in one struct, each contract would say besides that the struct's references and its variables stay the same.
+// The scratch and the arena are two parameters: each call in the bodies takes just one of them, so a struct of both would be taken apart in every line.
 ghost use Rattle.std.specs.Prelude.{◌≡◌, ℕ, ◌+◌, ◌^◌, ◌≤◌, length};
 ghost use Rattle.poly.specs.Arithmetic.{constant, variable};
 ghost use Rattle.poly.specs.Modest.{checked};

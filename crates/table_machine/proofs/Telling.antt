@@ -1,5 +1,7 @@
 -- What facts tell, by the monomials of what they are about. Assumes nothing.
-use Rattle.std.proofs.Common.{◌≡◌, ℕ, zero, suc, ◌-◌, ◌<◌, Bool, true, false, List, [], ◌∷◌, length, ℤ, Option, sym, refl, ap, ◌∙◌, subst, ap₂, arith}
+use denote.Param.Members.{Mut, Called}
+use Rattle.std.specs.Iterator.Runs.{Run, CallKeepsClosure, AllItemsGive, IsFirstToGive, IsIdenticalRun, ItemsCountDown}
+use Rattle.std.proofs.Common.{◌≡◌, ℕ, zero, suc, ◌+◌, ◌-◌, ◌<◌, ◌≤◌, Bool, true, false, List, [], ◌∷◌, length, ℤ, Option, Some, None, add-zero, MatchOption, IfSome, IsSomeAnd, IsTrue, option_map, sym, refl, ap, ◌∙◌, subst, ap₂, arith}
 use Rattle.field.specs.declared.sign.Sign.{Sign}
 use Rattle.field.specs.declared.sign.Sign.TheVariants.{Zero}
 use Rattle.field.specs.Sign.{flip, sign_of}
@@ -42,10 +44,10 @@ among_more n p f k = by (same n p (f k).poly) (same n (negative n p) (f k).poly)
     by false false rest = refl
 
 -- one fact, by its monomials
-one-fact : (n : ℕ) (slots : List ℤ) (i count k : ℕ) (f : ℕ → Fact) → AllHold n slots →
+pub one_fact_more : (n : ℕ) (slots : List ℤ) (i count k : ℕ) (f : ℕ → Fact) → AllHold n slots →
     let ts = leading_front n slots i count in let us = leading_front n slots (f k).slot (f k).count in let p = leading n (front_poly n slots i count) in
     among n p (back (λ j. fact_from n slots (f j)) (suc k)) ≡ or_else (told_by (same_terms ts us) (same_terms (neg_terms ts) us) (f k).sign) (among n p (back (λ j. fact_from n slots (f j)) k))
-one-fact n slots i count k f h =
+one_fact_more n slots i count k f h =
     let p = leading n (front_poly n slots i count) in
     let q = leading n (front_poly n slots (f k).slot (f k).count) in
     let dp = leading_denotes n slots i count h in
@@ -54,20 +56,6 @@ one-fact n slots i count k f h =
     among_more n p (λ j. fact_from n slots (f j)) k ∙
     ap₂ (λ a b. or_else (told_by a b (f k).sign) rest) (sym (denoting_laws.same_is n (leading_front n slots i count) (leading_front n slots (f k).slot (f k).count) p q dp dq))
     (sym (denoting_laws.same_negative_is n (leading_front n slots i count) (leading_front n slots (f k).slot (f k).count) p q dp dq))
-
--- what a fact told, and what those before it tell
-pub fact-told : (n : ℕ) (slots : List ℤ) (i count len : ℕ) (f : ℕ → Fact) (g : Fact) (ts : List Monomial) (o : Option Sign) → AllHold n slots → 0 < len →
-    g ≡ f (len - 1) → ts ≡ leading_front n slots i count →
-    let us = leading_front n slots g.slot g.count in
-    let p = leading n (front_poly n slots i count) in
-    known_of o ≡ told_by (same_terms ts us) (same_terms (neg_terms ts) us) g.sign →
-    among n p (back (λ j. fact_from n slots (f j)) len) ≡ or_else (known_of o) (among n p (back (λ j. fact_from n slots (f j)) (len - 1)))
-fact-told n slots i count len f g ts o h l e q t =
-    let m : len ≡ suc (len - 1) = omega arith in
-    let p = leading n (front_poly n slots i count) in
-    let rest = among n p (back (λ j. fact_from n slots (f j)) (len - 1)) in
-    let told : Fact → List Monomial → Known = λ v ts. told_by (same_terms ts (leading_front n slots v.slot v.count)) (same_terms (neg_terms ts) (leading_front n slots v.slot v.count)) v.sign in
-    ap (λ j. among n p (back (λ j. fact_from n slots (f j)) j)) m ∙ one-fact n slots i count (len - 1) f h ∙ ap₂ (λ v us. or_else (told v us) rest) (sym e) (sym q) ∙ ap (λ z. or_else z rest) (sym t)
 
 pub no_facts : (n : ℕ) (p : Poly) (f : ℕ → table.Fact) → Unknown ≡ among n p (back f 0)
 unfolding among back
@@ -107,3 +95,46 @@ known_among n slots i count fs ts h l q z =
     some : (ts : List Monomial) → (length ts ≡ 0 → ⊥) → is_zero_terms ts ≡ false
     some [] e = absurd (e refl)
     some (m ∷ ms) e = refl
+
+-- `told k` is what fact k tells
+module _ (n : ℕ) (p : Poly) (f : ℕ → table.Fact) (told : ℕ → Known) (more : (k : ℕ) → among n p (back f (suc k)) ≡ or_else (told k) (among n p (back f k))) where
+  -- facts that tell nothing are passed
+  passed_facts : (d x : ℕ) → ((y : ℕ) → x ≤ y → y < x + d → Unknown ≡ told y) → among n p (back f (x + d)) ≡ among n p (back f x)
+  passed_facts zero x u = ap (λ k. among n p (back f k)) (add-zero x)
+  passed_facts (suc d) x u =
+      let e : x + suc d ≡ suc (x + d) = omega arith in
+      ap (λ k. among n p (back f k)) e ∙ more (x + d) ∙ ap (λ t. or_else t (among n p (back f (x + d)))) (sym (u (x + d) (omega arith) (omega arith)))
+      ∙ passed_facts d x (λ y a b. u y a (omega (arith, b)))
+
+  module _ {S F T : Type 0} {steps : S → Option ℕ → S → Type 0} {steps' : T → Option ℕ → T → Type 0} (run : Run steps) (source : Run steps') (g : Mut F (ℕ × Unit {0}) (Option Sign)) (c : F) (len : ℕ) where
+    -- the first answer of a search from the last fact to the first
+    pub first_told : (r : Option Sign) → CallKeepsClosure g c → ((x : ℕ) (o : Option Sign) → Called g c (x, tt) o c → known_of o ≡ told x) →
+        IsIdenticalRun run source → ItemsCountDown source 0 len →
+        MatchOption r (IsTrue run.whole × AllItemsGive run g c None) (λ y. (i : ℕ) × (i < run.len) × (run.len ≡ i + 1) × IsFirstToGive run g c (Some y) None i) →
+        known_of r ≡ among n p (back f len)
+    first_told r keeps says alike down found = by r found
+      where
+        whole_option : (o : Option ℕ) → option_map (λ y. y) o ≡ o
+        whole_option None = refl
+        whole_option (Some x) = refl
+
+        place : (k : ℕ) → k < run.len → run.at k ≡ Some (len - 1 - k)
+        place k l = sym (alike.0.2 k) ∙ sym (whole_option (source.at k)) ∙ down.3 k (omega (arith, alike.0.0, l))
+
+        by : (r : Option Sign) → MatchOption r (IsTrue run.whole × AllItemsGive run g c None) (λ y. (i : ℕ) × (i < run.len) × (run.len ≡ i + 1) × IsFirstToGive run g c (Some y) None i) →
+            known_of r ≡ among n p (back f len)
+        by None h =
+            let whole : len ≡ 0 + len = omega arith in
+            let long : run.len ≡ len = omega (arith, alike.0.0, down.1 (alike.1 ∙ h.0)) in
+            no_facts n p f ∙ sym (ap (λ k. among n p (back f k)) whole ∙ passed_facts len 0 (λ y a b.
+            let k : len - 1 - (len - 1 - y) ≡ y = omega (arith, b) in
+            says y None (subst (λ o. IfSome o (λ x. Called g c (x, tt) None c)) (place (len - 1 - y) (omega (arith, b, long)) ∙ ap Some k) (h.1 keeps (len - 1 - y)))))
+        by (Some s) (i, l, e, first) =
+            let short : run.len ≤ len = omega (arith, alike.0.0, down.0) in
+            let x : ℕ = len - 1 - i in
+            let answer : Is s ≡ told x = says x (Some s) (subst (λ o. IsSomeAnd o (λ x. Called g c (x, tt) (Some s) c)) (place i l) (first keeps).0) in
+            let z : suc x + i ≡ len = omega (arith, short, e) in
+            sym (ap (λ k. among n p (back f k)) (sym z) ∙ passed_facts i (suc x) (λ y a b.
+            let j : len - 1 - (len - 1 - y) ≡ y = omega (arith, a, b, z) in
+            says y None (subst (λ o. IsSomeAnd o (λ x. Called g c (x, tt) None c)) (place (len - 1 - y) (omega (arith, a, b, z, e)) ∙ ap Some j) ((first keeps).1 (len - 1 - y) (omega (arith, a, b, z)))))
+            ∙ more x ∙ ap (λ t. or_else t (among n p (back f x))) (sym answer))

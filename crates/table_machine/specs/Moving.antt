@@ -21,7 +21,8 @@ use Rattle.stacks.specs.Values.{left_in, fact_in, question_in}
 use Rattle.stacks.specs.Memories.{Cells, front_poly, left_from, fact_from, marks_from, memory_of, poly_of}
 use Rattle.stacks.specs.Slots.{slot_in}
 use Rattle.table_machine.specs.declared.facing.Facing.{Facing}
-use Rattle.table_machine.specs.Cells.{rewritten}
+use Rattle.table_machine.specs.declared.arrays.Machine.{Machine}
+use Rattle.table_machine.specs.Cells.{cells_of, rewritten}
 use Rattle.table_machine.specs.Fitting.{Fitting}
 use Rattle.table_machine.specs.Settling.{Settles}
 
@@ -66,6 +67,12 @@ pub record SameLengths (c d : Cells) : Type 0 where
   pub lefts : length d.lefts ≡ length c.lefts
   pub facts : length d.facts ≡ length c.facts
   pub questions : length d.questions ≡ length c.questions
+
+-- a step stays among the same variables and polynomials, in arrays as long
+pub record Stays (a b : Machine) : Type 0 where
+  pub others : b.others ≡ a.others
+  pub slots : b.slots.now ≡ a.slots.now
+  pub long : SameLengths (cells_of a) (cells_of b)
 
 -- with one fact more
 abbrev pub one_fact : Marks → Marks

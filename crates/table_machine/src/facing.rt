@@ -5,7 +5,7 @@ use stacks::marks::Marks;
 
 mod steps;
 
-// That something is ahead and may be looked at is asked by each step: the outlook is for where it isn't so.
+// That something is ahead and may be looked at is asked by each step and isn't a fact of the type: `outlook` takes a Facing where it may not be so, and says `Look` where it is.
 #[derive(Clone, Copy)]
 pub struct Facing {
     pub marks: Marks,

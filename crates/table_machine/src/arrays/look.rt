@@ -4,7 +4,7 @@ ghost use Rattle.poly.specs.Poly.{is_zero};
 ghost use Rattle.sign_table.specs.Facts.{Unknown};
 ghost use Rattle.stacks.specs.Values.{question_in};
 ghost use Rattle.table_machine.specs.Cells.{cells_of, rewritten};
-ghost use Rattle.table_machine.specs.Moving.{current_poly, current_known, Looks, PassesZero, Room, SameLengths, Explores, Askable, Returns};
+ghost use Rattle.table_machine.specs.Moving.{current_poly, current_known, Looks, PassesZero, Room, Stays, Explores, Askable, Returns};
 
 use super::Machine;
 use crate::facing::Facing;
@@ -63,9 +63,7 @@ impl Machine<'_> {
         requires room { Room (cells_of self.old) at.marks at.pending }
         requires unknown { (is_zero (current_poly self.old.others.count self.old.slots.now at.marks) ≡ false) × (current_known self.old.others.count self.old.slots.now self.old.facts.now at.marks ≡ Unknown) }
         ensures looks { Looks self.old.others.count (cells_of self.old) at (cells_of self.new) result }
-        ensures others { self.new.others ≡ self.old.others }
-        ensures slots { self.new.slots.now ≡ self.old.slots.now }
-        ensures long { SameLengths (cells_of self.old) (cells_of self.new) }
+        ensures stays { Stays self.old self.new }
     {
         let question = Question {
             marks: at.marks,
@@ -81,9 +79,7 @@ impl Machine<'_> {
         requires lefts { 2 * 2521 ≤ length self.old.lefts.now }
         requires questions { 10 * pending ≤ length self.old.questions.now }
         ensures returns { Returns self.old.others.count (cells_of self.old) tree pending (cells_of self.new) result }
-        ensures others { self.new.others ≡ self.old.others }
-        ensures slots { self.new.slots.now ≡ self.old.slots.now }
-        ensures long { SameLengths (cells_of self.old) (cells_of self.new) }
+        ensures stays { Stays self.old self.new }
     {
         let Question { marks, branch } = self.question(pending - 1);
         match branch {
@@ -104,9 +100,7 @@ impl Machine<'_> {
         requires some { (0 < at.marks.looks) × (0 < at.marks.ahead) }
         requires room { Room (cells_of self.old) at.marks at.pending }
         ensures looks { Looks self.old.others.count (cells_of self.old) at (cells_of self.new) result }
-        ensures others { self.new.others ≡ self.old.others }
-        ensures slots { self.new.slots.now ≡ self.old.slots.now }
-        ensures long { SameLengths (cells_of self.old) (cells_of self.new) }
+        ensures stays { Stays self.old self.new }
     {
         if self.is_zero(at) {
             return self.pass_zero(at);

@@ -42,17 +42,14 @@ impl Polynomials<'_> {
         None
     }
 
-    // What the first `len` facts tell, the newest first.
+    // What the first `len` facts tell, the newest first. The facts lie in a longer lent array, of which `len` are in use.
     fn among_facts(&self, facts: &[i64], front: Front, len: u16) -> Option<Sign>
         ensures { known_of result ≡ among self.now.others.count (leading_of self.now.others.count (front_poly self.now.others.count self.now.slots.now front.slot front.count)) (back (λ i. fact_from self.now.others.count self.now.slots.now (fact_in facts.now i)) len) }
     {
         let leading = self.leading(front);
-        for i in (0..len).rev() {
-            if let Some(sign) = self.told(leading, read(facts, i)) {
-                return Some(sign);
-            }
-        }
-        None
+        (0..len)
+            .rev()
+            .find_map(|i| self.told(leading, read(facts, i)))
     }
 
     // What is known of the sign of a leading coefficient, by the first `len` facts. With no variables left it is a number, which has its sign.

@@ -1,28 +1,26 @@
-use Rattle.std.proofs.Common.{◌≡◌, ℕ, ◌<◌, Some, None, sym, ap, ◌∙◌, arith}
+use Rattle.std.proofs.Common.{rules, ℕ, subst}
+use Rattle.std.proofs.iter.runs.Sources.{range_runs_back}
+use Rattle.std.specs.Iterator.Runs.{ItemsCountDown}
 use Rattle.poly.specs.Leading.{leading}
-use Rattle.sign_table.specs.Facts.{among}
-use Rattle.machine.specs.Stacks.{back}
+use Rattle.sign_table.specs.Facts.{Known}
+use Rattle.terms.specs.Operations.{same_terms, neg_terms}
 use Rattle.stacks.specs.Values.{fact_in}
 use Rattle.stacks.specs.Memories.{front_poly, fact_from}
-use Rattle.table_machine.proofs.Telling.{fact-told, no_facts}
+use Rattle.table_machine.specs.Told.{told_by, leading_front}
+use Rattle.table_machine.proofs.Telling.{one_fact_more, first_told}
 use Rattle.table_machine.proofs.polynomials.Polynomials.among_facts.Goals as goal
-
-pub returns-in-Some : goal.returns-in-Some
-returns-in-Some c =
-    let self = c.args.self.now in
-    let l : 0 < c.loop-i.i = omega arith in
-    sym (fact-told self.others.count self.slots.now c.args.front.slot c.args.front.count c.loop-i.i (fact_in c.args.facts.now) _ _ (Some c.in-Some.sign) self.hold l c.read.ensures c.leading-leading.ensures c.in-Some.ensures) ∙ c.loop-i.invariant
-
-pub loop-i-preserved : goal.loop-i-preserved
-loop-i-preserved c =
-    let self = c.args.self.now in
-    let l : 0 < c.loop-i.i = omega arith in
-    sym (fact-told self.others.count self.slots.now c.args.front.slot c.args.front.count c.loop-i.i (fact_in c.args.facts.now) _ _ None self.hold l c.read.ensures c.leading-leading.ensures c.in_default.ensures) ∙ c.loop-i.invariant
 
 pub returns : goal.returns
 returns c =
     let self = c.args.self.now in
-    let z : c.loop-i.i ≡ 0 = omega arith in
-    let p = leading self.others.count (front_poly self.others.count self.slots.now c.args.front.slot c.args.front.count) in
-    let f = λ (i : ℕ). fact_from self.others.count self.slots.now (fact_in c.args.facts.now i) in
-    no_facts self.others.count p f ∙ ap (λ k. among self.others.count p (back f k)) (sym z) ∙ c.loop-i.invariant
+    let n = self.others.count in
+    let slots = self.slots.now in
+    let facts = fact_in c.args.facts.now in
+    let ts = leading_front n slots c.args.front.slot c.args.front.count in
+    let told : ℕ → Known = λ x. let us = leading_front n slots (facts x).slot (facts x).count in told_by (same_terms ts us) (same_terms (neg_terms ts) us) (facts x).sign in
+    let found = c.find_map.ensures.runs in
+    let source = c.rev.ensures.runs found.0 found.0.seen found.1 in
+    let down = range_runs_back source.0 source.0.seen in
+    first_told n (leading n (front_poly n slots c.args.front.slot c.args.front.count)) (λ i. fact_from n slots (facts i)) told
+    (λ k. one_fact_more n slots c.args.front.slot c.args.front.count k facts self.hold)
+    found.0 source.0 _ _ c.args.len c.find_map.result (search rules) (search rules) source.2 (subst (λ r. ItemsCountDown source.0 r.start r.end) source.1 down) found.2
