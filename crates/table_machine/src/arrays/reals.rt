@@ -50,7 +50,7 @@ impl Machine<'_> {
         ensures { FoundHighest self.now.others.count (cells_of self.now) at.marks result }
     {
         let mut top = None;
-        // Counted by hand: that base + i is an index is known only inside the loop, so a filter's closure can't read the slot.
+        // Counted by hand: a filter's closure would have to ask, in a contract of its own, that i lies below `done`.
         let mut count = 0;
         for i in 0..at.marks.done {
             if self.left(at.marks.base + i).count > 0 {
