@@ -5,6 +5,7 @@ ghost use Rattle.std.specs.Prelude.{◌≡◌, ◌+◌, ◌<◌, ◌≤◌, [], 
 #[derive(Clone, Copy, PartialEq, Eq, Debug)]
 pub struct Full;
 
+// Lent memory has a fixed length, so how much of it is in use stands beside it.
 // That the loan stays the same (`lent`) stands with each method: it ties the value after a call to the one before, which no ghost field can.
 #[derive(Drop)]
 pub struct Arena<'a> {

@@ -11,7 +11,7 @@ pub const MOST: u16 = 3500;
 #[derive(Drop)]
 pub struct Questions<'a> {
     arena: Arena<'a>,
-    // A field, since each look would otherwise divide the arena's top by the width.
+    // The count is a field, though the arena's top is five times it: each method would divide by five, and show that nothing is left over.
     len: usize,
     ghost whole: { arena.top ≡ 5 * len },
 }

@@ -1,4 +1,4 @@
-// A tree of questions: an answer, or the index of a question in lent memory.
+// A tree of questions: an answer, or the index of a question in lent memory. The answers are cases of their own: an Answer within a case would be one match more at each place.
 ghost use Rattle.std.specs.Prelude.{◌≡◌, length, pos, slice_index_or};
 ghost use Rattle.std.proofs.Common.{lit<};
 ghost use Rattle.question.specs.Cells.{cell_of, tree_at, small_of};

@@ -18,6 +18,7 @@ use field::sign::Sign;
 
 // What a table makes its rows by, and what it keeps between two of them.
 // That the stages stay is a clause of each function: no ghost field can name the stages before a call.
+// A table holds its stage itself: with a reference to it the check doesn't follow what is written through the slice.
 #[derive(Clone, Copy)]
 pub struct Table {
     pub stage: Stage,

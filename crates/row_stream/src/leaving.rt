@@ -47,7 +47,7 @@ fn crossing(s: Sign) -> [Entry; 3]
     ]
 }
 
-// What leaves when a point comes.
+// What leaves when a point comes. Its sign and whether it stays are asked apart, as the definition asks them: one Option of both would be taken apart in the clause.
 pub fn until_point(way: Option<Way>, p: Option<Sign>, stays: bool) -> Result<Leaving, Gap>
     ensures { leaving_of result ≡ entries_to_point way (known_of p) stays }
 {

@@ -32,6 +32,7 @@ impl Stage {
         let (before, behind) = others.split_at(self.place.min(others.len()));
         let mut reals = before.iter().chain(slice::from_ref(&sign)).chain(behind);
         let mut items = [Sign::Zero; MAX_SIGNS];
+        // by index: the library says nothing of what is written through an adapter of iter_mut
         for (i, slot) in plan.iter().enumerate() {
             items[i] = match slot {
                 Some(known) => *known,

@@ -1,5 +1,5 @@
 // Operations of terms: their polynomials at the top of an arena, or none where one isn't modest.
-// The scratch and the arena are two parameters: each call in the bodies takes just one of them, so a struct of both would be taken apart in every line.
+// The scratch and the arena are two parameters: as one struct they would be named one step deeper in every clause, and what reads or packs takes just the arena. Room is asked at each call, since it differs from call to call.
 ghost use Rattle.std.specs.Prelude.{◌≡◌, ℕ, ◌+◌, ◌^◌, ◌≤◌, length};
 ghost use Rattle.poly.specs.Arithmetic.{constant, variable};
 ghost use Rattle.poly.specs.Modest.{checked};

@@ -34,7 +34,7 @@ pub struct Quotient {
 }
 
 // A polynomial to divide by, in one variable and `others` more.
-// The scratch and the arena are two parameters: each call in the bodies takes just one of them, so a struct of both would be taken apart in every line.
+// The scratch and the arena are two parameters: as one struct they would be named one step deeper in every clause, and what reads or packs takes just the arena.
 #[derive(Clone, Copy)]
 pub struct Divisor {
     pub span: Span,

@@ -181,7 +181,7 @@ impl Sheet {
     }
 
     // That the formula that begins at `from` and the one that begins at `middle` imply each other.
-    fn equate(&mut self, from: usize, middle: usize)
+    pub fn equate(&mut self, from: usize, middle: usize)
         ensures { Equates from middle self.old self.new }
     {
         let end = self.count;

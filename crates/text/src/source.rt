@@ -153,5 +153,6 @@ pub fn position(names: &[Word], word: Word) -> Option<usize>
     ensures value { result ≡ position names.now word }
     ensures within { elim result [ Some i ↦ i < length names.now | None ↦ Unit {0} ] }
 {
+    // by the letters alone, as the definition compares
     names.iter().position(|name| name.letters == word.letters)
 }

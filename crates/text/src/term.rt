@@ -209,7 +209,7 @@ impl Source<'_> {
     }
 
     // The summands behind a first one; whether an arrow has been read behind them.
-    // A bool, as the definition has it: whether an arrow may end the sum.
+    // Whether an arrow may end the sum is a bool, here and in what follows: an enum would be turned into the definition's bool in each clause.
     #[cycle(term_levels)]
     pub fn plus(
         &self,

@@ -5,7 +5,7 @@ ghost use Rattle.word_text.specs.declared.scan.ScanError.TheVariants.{NotNumbers
 
 use std::alloc::{AllocError, AllocFailed, Global};
 
-// A number as far as it is read.
+// A number as far as it is read; the sign stands apart, since -0 may have digits to come.
 #[derive(Clone, Copy)]
 pub struct Numeral {
     pub negative: bool,

@@ -42,7 +42,7 @@ impl Polynomials<'_> {
         None
     }
 
-    // What the first `len` facts tell, the newest first. The facts lie in a longer lent array, of which `len` are in use.
+    // What the first `len` facts tell, the newest first. The facts lie in a longer lent array, of which `len` are in use: a slice of just these would ask that the array is so long, which isn't asked where facts are read.
     fn among_facts(&self, facts: &[i64], front: Front, len: u16) -> Option<Sign>
         ensures { known_of result ≡ among self.now.others.count (leading_of self.now.others.count (front_poly self.now.others.count self.now.slots.now front.slot front.count)) (back (λ i. fact_from self.now.others.count self.now.slots.now (fact_in facts.now i)) len) }
     {
