@@ -16,6 +16,7 @@ use storage::span::Span;
 use wide::scratch::Scratch;
 
 // The derivative of the first monomials of a polynomial, stored in another slot if it is modest. The arena is only worked in.
+// No method of the machine: it writes a slot, and that every slot holds a polynomial then is for its caller to say.
 pub fn put_derivative(
     slots: &mut [i64],
     others: Variables,

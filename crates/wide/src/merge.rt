@@ -19,7 +19,7 @@ pub struct Place {
     pub right: usize,
 }
 
-// The sum of a list and of a monomial times a stored polynomial.
+// The sum of a list and of a monomial times a stored polynomial. The two factors go along as two: a struct of them would be taken apart at each step.
 pub fn add_scaled(by: Term, polynomial: View, list: &Wide, out: &mut Wide)
     requires { Addable (scaled_by by (polynomial)) (written list.now) }
     ensures { written out.new ≡ add_terms (scaled_by by polynomial.entry) (written list.now) }
