@@ -1,16 +1,13 @@
 -- One link of a chain of tables, and a whole run. Assumes nothing.
-use Rattle.std.proofs.Common.{◌≡◌, ℕ, ◌+◌, ◌<◌, List, [], ◌∷◌, ◌++◌, length, get_or, take, drop, set, Result, Ok, Err, IsErr, sym, refl, ap, ◌∙◌}
-use mathlib.Core.List.{foldl, map}
-use Rattle.std.proofs.lemmas.List.{get_or_default}
-use Rattle.std.proofs.lemmas.List.Edits.{map_over_more}
+use Rattle.std.proofs.Common.{◌≡◌, List, [], ◌∷◌, length, replicate, Result, Ok, Err, IsErr, sym, refl, ap, ◌∙◌}
+use mathlib.Core.List.{foldl}
 use Rattle.field.specs.declared.sign.Sign.{Sign}
 use Rattle.stream.specs.Stage.{Stage as TableStage, Outcome, Gap, Went, upon, outermost_rows}
 use Rattle.stream.specs.Step.{Cell as TableCell, stepped, closing}
 use Rattle.stream.specs.Chain.{State, pushed_all, pushed, closed, fresh}
 use Rattle.stream.proofs.Chain.{run_resumes}
-use Rattle.row_stream.specs.declared.chain.Table.{Table}
+use Rattle.row_stream.specs.declared.stage.Stage.{Stage}
 use Rattle.row_stream.specs.declared.leaving.Gap.{Gap as RowGap}
-use Rattle.row_stream.specs.Filling.{stage_of}
 use Rattle.row_stream.specs.Cells.{cell_of, empty_cell}
 use Rattle.row_stream.specs.Tables.{stages_of, cells_of}
 use Rattle.row_stream.specs.Reached.{reached, ended}
@@ -49,18 +46,7 @@ pub run_ends : {A : Type 0} (grow : A → List Sign → A) (fs : List TableStage
     upon pushes (λ s. closed grow fs s.cells s.sink) ≡ upon (outermost_rows fs (row ∷ [])) (λ rows. Went (foldl grow a rows))
 run_ends grow fs a row pushes given = ap (λ z. upon z (λ s. closed grow fs s.cells s.sink)) (sym given) ∙ run_resumes grow fs a row
 
--- a table that keeps nothing
-abbrev pub cleared : Table → Table
-cleared t = record { stage = t.stage; cell = empty_cell }
-
-pub cleared_more : (ts us : List Table) (i : ℕ) (d : Table) → i < length ts → i < length us → us ≡ map cleared (take i ts) ++ drop i ts →
-    set us i (cleared (get_or us i d)) ≡ map cleared (take (i + 1) ts) ++ drop (i + 1) ts
-cleared_more ts us i d h k e = map_over_more cleared ts us i (get_or us i d) h e (get_or_default us i d (get_or us i d) k)
-
-pub stages_cleared : (ts : List Table) → stages_of (map cleared ts) ≡ stages_of ts
-stages_cleared [] = refl
-stages_cleared (t ∷ ts) = ap (λ fs. stage_of t.stage ∷ fs) (stages_cleared ts)
-
-pub cells_cleared : (ts : List Table) → cells_of (map cleared ts) ≡ fresh (stages_of ts)
+-- so many tables that keep nothing
+pub cells_cleared : (fs : List Stage) → cells_of (replicate (length fs) empty_cell) ≡ fresh (stages_of fs)
 cells_cleared [] = refl
-cells_cleared (t ∷ ts) = ap (λ cs. cell_of empty_cell ∷ cs) (cells_cleared ts)
+cells_cleared (f ∷ fs) = ap (λ cs. cell_of empty_cell ∷ cs) (cells_cleared fs)

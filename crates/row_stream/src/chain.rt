@@ -1,10 +1,11 @@
 // A chain of tables, the innermost first: each takes the rows of the one before it, and a sink takes the last one's.
-ghost use Rattle.std.specs.Prelude.{◌≡◌, [], ◌∷◌};
+ghost use Rattle.std.specs.Prelude.{◌≡◌, ◌≤◌, [], ◌∷◌, length, replicate};
 ghost use mathlib.Core.List.{foldl};
 ghost use Rattle.stream.specs.Stage.{Went, upon, outermost_rows};
-ghost use Rattle.stream.specs.Chain.{pushed, pushed_all, closed, fresh};
+ghost use Rattle.stream.specs.Chain.{pushed, pushed_all, closed};
 ghost use Rattle.row_stream.specs.Signs.{signs_of};
 ghost use Rattle.row_stream.specs.Filling.{stage_of};
+ghost use Rattle.row_stream.specs.Cells.{empty_cell};
 ghost use Rattle.row_stream.specs.Tables.{stages_of, cells_of};
 ghost use Rattle.row_stream.specs.Taken.{leaving_rows};
 ghost use Rattle.row_stream.specs.Reached.{reached, ended};
@@ -14,35 +15,35 @@ use crate::leaving::{Gap, Leaving};
 use crate::signs::{Signs, front};
 use crate::sink::Sink;
 use crate::stage::Stage;
+use crate::tables::Tables;
 use field::sign::Sign;
 
-// What a table makes its rows by, and what it keeps between two of them.
-// That the stages stay is a clause of each function: no ghost field can name the stages before a call.
-// A table holds its stage itself: with a reference to it the check doesn't follow what is written through the slice.
-#[derive(Clone, Copy)]
-pub struct Table {
-    pub stage: Stage,
-    pub cell: Cell,
-}
-
-// A row is pushed into the innermost table.
+// A row is pushed into the innermost table; a stage without a cell is a gap.
 #[cycle(give_push)]
 #[tactic(auto, unfolding(stream::specs::Chain::pushed, stream::specs::Chain::pushed_all))]
-pub fn push<S: Sink>(tables: &mut [Table], sink: &mut S, row: &Signs) -> Result<(), Gap>
-    ensures stages { stages_of tables.new ≡ stages_of tables.old }
-    ensures rows { pushed S.Sink.grown (stages_of tables.old) (cells_of tables.old) sink.old (signs_of row.now) ≡ reached result (cells_of tables.new) sink.new }
+pub fn push<S: Sink>(
+    stages: &[Stage],
+    cells: &mut [Cell],
+    sink: &mut S,
+    row: &Signs,
+) -> Result<(), Gap>
+    ensures { pushed S.Sink.grown (stages_of stages.now) (cells_of cells.old) sink.old (signs_of row.now) ≡ reached result (cells_of cells.new) sink.new }
 {
-    let Some((table, outer)) = tables.split_first_mut() else {
+    let Some((stage, outer)) = stages.split_first() else {
         sink.take(row.view());
         return Ok(());
     };
-    let taken = table.cell.take_row(&table.stage, row)?;
-    let before = table.cell;
-    table.cell = taken.cell;
-    let others = front(row.view(), table.stage.divisors);
+    let Some((cell, kept)) = cells.split_first_mut() else {
+        return Err(Gap);
+    };
+    let taken = cell.take_row(stage, row)?;
+    let before = *cell;
+    *cell = taken.cell;
+    let others = front(row.view(), stage.divisors);
     give(
-        &table.stage,
+        stage,
         outer,
+        kept,
         sink,
         &taken.leaving,
         before.held(),
@@ -55,56 +56,58 @@ pub fn push<S: Sink>(tables: &mut [Table], sink: &mut S, row: &Signs) -> Result<
 #[tactic(auto, unfolding(stream::specs::Chain::pushed, stream::specs::Chain::pushed_all))]
 fn give<S: Sink>(
     stage: &Stage,
-    tables: &mut [Table],
+    stages: &[Stage],
+    cells: &mut [Cell],
     sink: &mut S,
     leaving: &Leaving,
     on_interval: &[Sign],
     at_point: &[Sign],
 ) -> Result<(), Gap>
-    ensures stages { stages_of tables.new ≡ stages_of tables.old }
-    ensures rows { pushed_all (pushed S.Sink.grown (stages_of tables.old)) (cells_of tables.old) sink.old (leaving_rows (stage_of stage.now) on_interval.now at_point.now leaving.now) ≡ reached result (cells_of tables.new) sink.new }
+    ensures { pushed_all (pushed S.Sink.grown (stages_of stages.now)) (cells_of cells.old) sink.old (leaving_rows (stage_of stage.now) on_interval.now at_point.now leaving.now) ≡ reached result (cells_of cells.new) sink.new }
 {
     for entry in leaving.view() {
         let row = stage.entry_row(*entry, on_interval, at_point);
-        push(tables, sink, &row)?;
+        push(stages, cells, sink, &row)?;
     }
     Ok(())
 }
 
 // No more rows come: the tables close, the innermost first.
 #[tactic(auto, unfolding(stream::specs::Chain::closed))]
-pub fn close<S: Sink>(tables: &mut [Table], sink: &mut S) -> Result<(), Gap>
-    ensures stages { stages_of tables.new ≡ stages_of tables.old }
-    ensures rows { closed S.Sink.grown (stages_of tables.old) (cells_of tables.old) sink.old ≡ ended result sink.new }
+pub fn close<S: Sink>(stages: &[Stage], cells: &mut [Cell], sink: &mut S) -> Result<(), Gap>
+    ensures { closed S.Sink.grown (stages_of stages.now) (cells_of cells.old) sink.old ≡ ended result sink.new }
 {
-    let Some((table, outer)) = tables.split_first_mut() else {
+    let Some((stage, outer)) = stages.split_first() else {
         return Ok(());
     };
-    let leaving = table.cell.take_end()?;
-    let held = table.cell.held();
-    give(&table.stage, outer, sink, &leaving, held, held)?;
-    close(outer, sink)
+    let Some((cell, kept)) = cells.split_first_mut() else {
+        return Err(Gap);
+    };
+    let leaving = cell.take_end()?;
+    let held = cell.held();
+    give(stage, outer, kept, sink, &leaving, held, held)?;
+    close(outer, kept, sink)
 }
 
 // Nothing is kept.
-fn clear(tables: &mut [Table])
-    ensures stages { stages_of tables.new ≡ stages_of tables.old }
-    ensures cells { cells_of tables.new ≡ fresh (stages_of tables.old) }
+fn clear(cells: &mut [Cell])
+    ensures { cells.new ≡ replicate (length cells.old) empty_cell }
 {
-    for table in tables.iter_mut() {
-        table.cell = Cell {
-            side: Side::Far,
-            held: None,
-        };
-    }
+    cells.fill(Cell {
+        side: Side::Far,
+        held: None,
+    });
 }
 
 // A table of one row alone, run through all of these: the sink takes the rows of the outermost table, unless there is a gap.
-pub fn run<S: Sink>(tables: &mut [Table], sink: &mut S, row: &Signs) -> Result<(), Gap>
-    ensures stages { stages_of tables.new ≡ stages_of tables.old }
-    ensures rows { ended result sink.new ≡ upon (outermost_rows (stages_of tables.old) (signs_of row.now ∷ [])) (λ rows. Went (foldl S.Sink.grown sink.old rows)) }
+pub fn run<S: Sink>(tables: &mut Tables<'_>, sink: &mut S, row: &Signs) -> Result<(), Gap>
+    ensures stages { tables.new.stages ≡ tables.old.stages }
+    ensures lent { tables.new.cells.ghost_name ≡ tables.old.cells.ghost_name }
+    ensures rows { ended result sink.new ≡ upon (outermost_rows (stages_of tables.old.stages.now) (signs_of row.now ∷ [])) (λ rows. Went (foldl S.Sink.grown sink.old rows)) }
 {
-    clear(tables);
-    push(tables, sink, row)?;
-    close(tables, sink)
+    let stages = tables.stages;
+    let cells = &mut tables.cells[..stages.len()];
+    clear(cells);
+    push(stages, cells, sink, row)?;
+    close(stages, cells, sink)
 }

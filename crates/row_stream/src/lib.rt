@@ -9,5 +9,6 @@ pub mod looks;
 pub mod signs;
 pub mod sink;
 pub mod stage;
+pub mod tables;
 pub mod taken;
 pub mod tally;

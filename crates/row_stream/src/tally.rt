@@ -11,10 +11,11 @@ ghost use Rattle.words.specs.Joined.{join_of};
 ghost use Rattle.words.specs.Quantifier.{over_all};
 ghost use Rattle.row_stream.specs.Joined.{tree_of};
 
-use crate::chain::{Table, run};
+use crate::chain::run;
 use crate::leaving::Gap;
 use crate::signs::Signs;
 use crate::sink::Sink;
+use crate::tables::Tables;
 use field::sign::Sign;
 use words::answer::Answer;
 use words::quantifier::Quantifier;
@@ -51,11 +52,12 @@ impl<J: Judge> Sink for Tally<J> {
 pub fn over_rows<J: Judge + Drop>(
     quantifier: Quantifier,
     judge: J,
-    tables: &mut [Table],
+    tables: &mut Tables<'_>,
     row: &Signs,
 ) -> Answer
-    ensures stages { stages_of tables.new ≡ stages_of tables.old }
-    ensures rows { tree_of result ≡ answered (λ u. u) (chain_run (λ a s. joined (over_all quantifier) a (tree_of (J.Judge.says judge s))) (stages_of tables.old) (before_rows (over_all quantifier)) (signs_of row.now)) }
+    ensures stages { tables.new.stages ≡ tables.old.stages }
+    ensures lent { tables.new.cells.ghost_name ≡ tables.old.cells.ghost_name }
+    ensures rows { tree_of result ≡ answered (λ u. u) (chain_run (λ a s. joined (over_all quantifier) a (tree_of (J.Judge.says judge s))) (stages_of tables.old.stages.now) (before_rows (over_all quantifier)) (signs_of row.now)) }
 {
     let mut tally = Tally {
         judge,

@@ -3,4 +3,4 @@ use Rattle.std.proofs.Common.{length}
 use Rattle.row_stream.proofs.chain.+close.Given as goal
 
 abbrev pub decreases-close : goal.decreases-close
-decreases-close g l = length l.tables.now
+decreases-close g l = length l.stages.now

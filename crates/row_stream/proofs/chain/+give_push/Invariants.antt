@@ -8,15 +8,12 @@ use Rattle.row_stream.specs.Taken.{leaving_rows}
 use Rattle.row_stream.proofs.chain.+give_push.Given as goal
 
 abbrev pub decreases-give : goal.decreases-give
-decreases-give g l = 2 * length l.tables.now + 1
+decreases-give g l = 2 * length l.stages.now + 1
 
 abbrev pub decreases-push : goal.decreases-push
-decreases-push g l = 2 * length l.tables.now
+decreases-push g l = 2 * length l.stages.now
 
 abbrev pub invariant-give-loop-entry : goal.invariant-give-loop-entry
-invariant-give-loop-entry g l = record {
-  same_stages : stages_of l.tables ≡ stages_of l.initial.tables;
-  same_rows :
-      pushed_all (pushed g.S.Sink.grown (stages_of l.initial.tables)) (cells_of l.initial.tables) l.initial.sink (leaving_rows (stage_of l.stage) l.on_interval l.at_point l.leaving) ≡
-      pushed_all (pushed g.S.Sink.grown (stages_of l.initial.tables)) (cells_of l.tables) l.sink (entry_rows (stage_of l.stage) l.on_interval l.at_point (drop l.entry-index (entries_of l.leaving)));
-}
+invariant-give-loop-entry g l =
+    pushed_all (pushed g.S.Sink.grown (stages_of l.stages)) (cells_of l.initial.cells) l.initial.sink (leaving_rows (stage_of l.stage) l.on_interval l.at_point l.leaving) ≡
+    pushed_all (pushed g.S.Sink.grown (stages_of l.stages)) (cells_of l.cells) l.sink (entry_rows (stage_of l.stage) l.on_interval l.at_point (drop l.entry-index (entries_of l.leaving)))
