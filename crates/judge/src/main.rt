@@ -8,6 +8,7 @@ fn main(rt: HostRuntime) -> anyhow::Result<()> {
     let mut text = Vec::new(rt.alloc());
     rt.stdin().read_to_end(&mut text)?;
     let line = Line(verdict_of_text(rt.alloc(), &text)?);
-    println!(rt; "{line}")?;
+    // its text, since a Display may fail and its law speaks only of what is written without an error
+    rt.println(line.text())?;
     Ok(())
 }
