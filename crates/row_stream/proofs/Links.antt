@@ -8,8 +8,8 @@ use Rattle.stream.specs.Chain.{State, pushed_all, pushed, closed, fresh}
 use Rattle.stream.proofs.Chain.{run_resumes}
 use Rattle.row_stream.specs.declared.stage.Stage.{Stage}
 use Rattle.row_stream.specs.declared.leaving.Gap.{Gap as RowGap}
-use Rattle.row_stream.specs.Cells.{cell_of, empty_cell}
-use Rattle.row_stream.specs.Tables.{stages_of, cells_of}
+use Rattle.row_stream.specs.Filling.{stages_of}
+use Rattle.row_stream.specs.Cells.{cell_of, cells_of, empty_cell}
 use Rattle.row_stream.specs.Reached.{reached, ended}
 
 -- what the first table keeps is put back

@@ -1,5 +1,5 @@
 -- What a table keeps, as the code holds it. Assumes nothing.
-use Rattle.std.specs.Prelude.{List, [], Option, Some, None}
+use Rattle.std.specs.Prelude.{List, [], map, Option, Some, None}
 use Rattle.stream.specs.Step.{Side as TableSide, Far as NonePoint, After as AfterPoint, Cell as TableCell, Clear as OnlySide, Held as WithInterval}
 use Rattle.row_stream.specs.declared.cell.Side.{Side}
 use Rattle.row_stream.specs.declared.cell.Side.TheVariants.{Far, After}
@@ -19,6 +19,9 @@ cell_with side (Some o) = WithInterval side (signs_of o)
 
 abbrev pub cell_of : Cell → TableCell
 cell_of c = cell_with (side_of c.side) c.held
+
+abbrev pub cells_of : List Cell → List TableCell
+cells_of cs = map cell_of cs
 
 abbrev pub signs_held : Option (AtMost Sign 63) → List Sign
 signs_held None = []

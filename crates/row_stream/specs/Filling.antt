@@ -1,5 +1,5 @@
--- What a stage stands for. Assumes nothing.
-use Rattle.std.specs.Prelude.{List, Option}
+-- What a stage stands for, and a list of them. Assumes nothing.
+use Rattle.std.specs.Prelude.{List, Option, map}
 use Rattle.field.specs.declared.sign.Sign.{Sign}
 use Rattle.stream.specs.Stage.{Stage as TableStage}
 use Rattle.row_stream.specs.AtMost.{values_of}
@@ -10,3 +10,6 @@ plan_of f = values_of f.plan
 
 abbrev pub stage_of : Stage → TableStage
 stage_of f = record { plan = plan_of f; place = f.place; divisors = f.divisors }
+
+abbrev pub stages_of : List Stage → List TableStage
+stages_of fs = map stage_of fs

@@ -4,7 +4,6 @@ pub mod AtMost
 pub mod Signs
 pub mod Filling
 pub mod Cells
-pub mod Tables
 pub mod Leaving
 pub mod Taken
 pub mod Reached

@@ -4,9 +4,8 @@ ghost use mathlib.Core.List.{foldl};
 ghost use Rattle.stream.specs.Stage.{Went, upon, outermost_rows};
 ghost use Rattle.stream.specs.Chain.{pushed, pushed_all, closed};
 ghost use Rattle.row_stream.specs.Signs.{signs_of};
-ghost use Rattle.row_stream.specs.Filling.{stage_of};
-ghost use Rattle.row_stream.specs.Cells.{empty_cell};
-ghost use Rattle.row_stream.specs.Tables.{stages_of, cells_of};
+ghost use Rattle.row_stream.specs.Filling.{stage_of, stages_of};
+ghost use Rattle.row_stream.specs.Cells.{cells_of, empty_cell};
 ghost use Rattle.row_stream.specs.Taken.{leaving_rows};
 ghost use Rattle.row_stream.specs.Reached.{reached, ended};
 

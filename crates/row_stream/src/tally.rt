@@ -6,7 +6,7 @@ ghost use Rattle.stream.specs.Fold.{before as before_rows, joined};
 ghost use Rattle.stream.specs.Resume.{answered};
 ghost use Rattle.words.specs.declared.answer.Answer.{Answer as RowAnswer};
 ghost use Rattle.row_stream.specs.Signs.{signs_of};
-ghost use Rattle.row_stream.specs.Tables.{stages_of};
+ghost use Rattle.row_stream.specs.Filling.{stages_of};
 ghost use Rattle.words.specs.Joined.{join_of};
 ghost use Rattle.words.specs.Quantifier.{over_all};
 ghost use Rattle.row_stream.specs.Joined.{tree_of};

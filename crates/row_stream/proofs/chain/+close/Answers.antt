@@ -2,9 +2,8 @@
 use Rattle.std.proofs.Common.{ap, ap₂, ◌∙◌}
 use Rattle.stream.specs.Stage.{upon}
 use Rattle.stream.specs.Chain.{closed}
-use Rattle.row_stream.specs.Filling.{stage_of}
-use Rattle.row_stream.specs.Cells.{cell_of}
-use Rattle.row_stream.specs.Tables.{stages_of, cells_of}
+use Rattle.row_stream.specs.Filling.{stage_of, stages_of}
+use Rattle.row_stream.specs.Cells.{cell_of, cells_of}
 use Rattle.row_stream.specs.Reached.{reached}
 use Rattle.row_stream.proofs.Links.{end_given}
 use Rattle.row_stream.proofs.chain.+close.Goals as goal

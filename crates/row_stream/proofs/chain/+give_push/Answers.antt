@@ -2,9 +2,8 @@
 use Rattle.std.proofs.Common.{ap₂, ◌∙◌}
 use Rattle.stream.specs.Chain.{pushed}
 use Rattle.row_stream.specs.Signs.{signs_of}
-use Rattle.row_stream.specs.Filling.{stage_of}
-use Rattle.row_stream.specs.Cells.{cell_of}
-use Rattle.row_stream.specs.Tables.{stages_of, cells_of}
+use Rattle.row_stream.specs.Filling.{stage_of, stages_of}
+use Rattle.row_stream.specs.Cells.{cell_of, cells_of}
 use Rattle.row_stream.proofs.Links.{table_gives}
 use Rattle.row_stream.proofs.chain.+give_push.Goals as goal
 

@@ -1,8 +1,8 @@
 -- A push gives to fewer tables; the rows pushed so far, and then those that are left, come to the same as all of them.
 use Rattle.std.proofs.Common.{◌≡◌, ◌+◌, ◌*◌, length, drop}
 use Rattle.stream.specs.Chain.{pushed, pushed_all}
-use Rattle.row_stream.specs.Filling.{stage_of}
-use Rattle.row_stream.specs.Tables.{stages_of, cells_of}
+use Rattle.row_stream.specs.Filling.{stage_of, stages_of}
+use Rattle.row_stream.specs.Cells.{cells_of}
 use Rattle.row_stream.specs.Leaving.{entries_of, entry_rows}
 use Rattle.row_stream.specs.Taken.{leaving_rows}
 use Rattle.row_stream.proofs.chain.+give_push.Given as goal

@@ -3,8 +3,8 @@ use Rattle.std.proofs.Common.{◌≡◌, rules, length, replicate, sym, ap, ◌�
 use Rattle.stream.specs.Stage.{upon}
 use Rattle.stream.specs.Chain.{closed, fresh}
 use Rattle.row_stream.specs.Signs.{signs_of}
-use Rattle.row_stream.specs.Cells.{empty_cell}
-use Rattle.row_stream.specs.Tables.{stages_of, cells_of}
+use Rattle.row_stream.specs.Filling.{stages_of}
+use Rattle.row_stream.specs.Cells.{cells_of, empty_cell}
 use Rattle.row_stream.specs.Reached.{reached}
 use Rattle.row_stream.proofs.Links.{ended_err, run_ends, cells_cleared}
 use Rattle.row_stream.proofs.chain.run.Goals as goal

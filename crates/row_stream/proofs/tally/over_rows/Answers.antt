@@ -2,7 +2,7 @@
 use Rattle.std.proofs.Common.{sym, ap, ◌∙◌}
 use Rattle.stream.specs.Resume.{answered}
 use Rattle.row_stream.specs.Signs.{signs_of}
-use Rattle.row_stream.specs.Tables.{stages_of}
+use Rattle.row_stream.specs.Filling.{stages_of}
 use Rattle.row_stream.specs.Joined.{tree_of}
 use Rattle.row_stream.specs.Reached.{ended}
 use Rattle.row_stream.proofs.Tallies.{tally_run}
