@@ -8,7 +8,8 @@ ghost use Rattle.words.specs.Quantifier.{over_all};
 ghost use Rattle.text.specs.Outcome.{outcome_of};
 ghost use Rattle.text.specs.Prefix.{name_of, prefix_of, Longer};
 
-use crate::bound::{Bound, Prefix};
+use crate::bound::Bound;
+pub use crate::bound::Prefix;
 use crate::source::{Source, position};
 use crate::term::is_reserved;
 use grammar::fault::Fault;
@@ -30,7 +31,7 @@ impl Prefix {
     }
 
     // The names, each in its quantifier's place.
-    pub(crate) fn names(&self) -> [Word; 4]
+    pub fn names(&self) -> [Word; 4]
         ensures { result ≡ map name_of self.now.quantifiers }
     {
         self.quantifiers.map(|bound| bound.name)
