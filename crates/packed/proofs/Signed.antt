@@ -1,5 +1,5 @@
 -- Monomials and their negatives, and when two lists are the same. Assumes nothing.
-use Rattle.std.proofs.Common.{◌≡◌, ℕ, zero, suc, ◌<◌, Bool, true, false, not, ◌&&◌, T, eqb, List, [], ◌∷◌, length, ℤ, ◌+ℤ◌, neg_ℤ, int_eq, sym, refl, ap, subst, ap₂, le_of_suc-le-suc, arith}
+use Rattle.std.proofs.Common.{◌≡◌, ℕ, zero, suc, ◌<◌, Bool, true, false, not, ◌&&◌, T, eqb, List, [], ◌∷◌, length, ℤ, ◌+ℤ◌, neg_ℤ, int_eq, sym, refl, ap, ◌∙◌, subst, ap₂, le_of_suc-le-suc, arith}
 use lib.IntN.{+ℤ_invr}
 use Rattle.std.proofs.Math.IntN.{neg_ℤ-neg_ℤ}
 use Rattle.std.proofs.lemmas.Bool.Decides.{same_from_decides, Decides-int_eq}
@@ -58,6 +58,18 @@ sizes-negated b (m ∷ ms) k = let h = k.0 in (omega (arith, size_neg m.times), 
 pub signed-sizes : (b : Bool) (most : ℕ) (ts : List Monomial) → SizesAtMost most ts → SizesAtMost most (signed b ts)
 signed-sizes true most ts k = sizes-negated most ts k
 signed-sizes false most ts k = k
+
+-- lists of different lengths are not the same
+pub other_length : (p q : List Monomial) → (length p ≡ length q → ⊥) → same_terms p q ≡ false
+unfolding same_terms
+other_length [] [] h = absurd (h refl)
+other_length [] (b ∷ q) h = refl
+other_length (a ∷ p) [] h = refl
+other_length (a ∷ p) (b ∷ q) h = ap (λ t. same_monomial a b && t) (other_length p q (λ e. h (ap suc e))) ∙ none (same_monomial a b)
+  where
+    none : (t : Bool) → t && false ≡ false
+    none true = refl
+    none false = refl
 
 pub same_cons : (a b : Monomial) (p q : List Monomial) → same_terms (a ∷ p) (b ∷ q) ≡ same_monomial a b && same_terms p q
 unfolding same_terms

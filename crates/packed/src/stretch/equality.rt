@@ -15,7 +15,8 @@ impl PartialEq for Stretch<'_> {
     ghost laws = { on_per stretch_terms same_terms-per };
 
     fn eq(&self, other: &Self) -> bool {
-        self.terms().eq(other.terms())
+        // Lists of different lengths aren't walked.
+        self.len() == other.len() && self.terms().eq(other.terms())
     }
 }
 
