@@ -9,7 +9,7 @@ use Rattle.storage.specs.Storing.{Packed, stored}
 use Rattle.storage.specs.Denoting.{Denotes}
 use Rattle.sentence_tree.specs.Placed.{Placed, Places}
 
-placed_modest : (ts : List Monomial) (count top : ℕ) (cells : List ℤ) (top' : ℕ) (cells' : List ℤ) → Packed count ts top cells top' cells' → Places ts (Some count) top cells top' cells'
+pub placed_modest : (ts : List Monomial) (count top : ℕ) (cells : List ℤ) (top' : ℕ) (cells' : List ℤ) → Packed count ts top cells top' cells' → Places ts (Some count) top cells top' cells'
 placed_modest ts count top cells top' cells' k n p checks =
     let small : modest n p ≡ true = sym checks.test ∙ k.modest in
     subst (λ b. Placed n (cond b (Fine p) TooBig) (Some count) top cells top' cells') (sym small) (record {

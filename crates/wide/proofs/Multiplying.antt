@@ -1,5 +1,5 @@
 -- A product is added up from the last monomial of the first factor to the first. Assumes nothing.
-use Rattle.std.proofs.Common.{◌++◌, length-append, ◌≡◌, ℕ, suc, ◌+◌, ◌-◌, ◌*◌, ◌^◌, ◌<◌, ◌≤◌, List, [], ◌∷◌, length, ℤ, pos, negsuc, ◌*ℤ◌, neg_ℤ, sym, refl, ap, ◌∙◌, subst, ap₂, mul-le-mul_right, one-mul, arith}
+use Rattle.std.proofs.Common.{◌++◌, length-append, ◌≡◌, ℕ, suc, ◌+◌, ◌-◌, ◌*◌, ◌^◌, ◌<◌, ◌≤◌, List, [], ◌∷◌, length, drop, ℤ, pos, negsuc, ◌*ℤ◌, neg_ℤ, sym, refl, ap, ◌∙◌, subst, ap₂, mul-le-mul_right, one-mul, arith, drop_of_length-le}
 use Rattle.poly.specs.Modest.{magnitude}
 use Rattle.terms.specs.Monomial.{Monomial, monomial}
 use Rattle.terms.specs.Operations.{add_terms, scale_terms, add_product}
@@ -24,9 +24,9 @@ last-factor before ts p e f =
       short = omega (arith, length-append before ts, g.short);
     }
 
-pub product_none : (q acc : List Monomial) → add_product [] q acc ≡ acc
+pub product_none : (p q acc : List Monomial) (i : ℕ) → length p ≤ i → add_product (drop i p) q acc ≡ acc
 unfolding add_product
-product_none q acc = refl
+product_none p q acc i h = ap (λ w. add_product w q acc) (drop_of_length-le p h)
 
 product_cons : (m : Monomial) (ms q acc : List Monomial) → add_product (m ∷ ms) q acc ≡ add_terms (scale_terms m.key m.times q) (add_product ms q acc)
 unfolding add_product

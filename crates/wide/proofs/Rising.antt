@@ -51,7 +51,7 @@ slopes-rising n lo hi (m ∷ ms) r h =
     let From : ℕ → Type 0 = λ j. Rising j hi (slopes n ms) in
     (omega arith, omega arith, not_zero_mul (pos (m.key / 32 ^ n)) m.times (some-times m.key (32 ^ n) (one-le-pow n 32 (omega arith)) k) r.2, subst From e more)
 
-signed-rising : (b : Bool) (lo hi : ℕ) (ts : List Monomial) → Rising lo hi ts → Rising lo hi (signed b ts)
+pub signed-rising : (b : Bool) (lo hi : ℕ) (ts : List Monomial) → Rising lo hi ts → Rising lo hi (signed b ts)
 signed-rising true lo hi ts r = rising-neg lo hi ts r
 signed-rising false lo hi ts r = r
 

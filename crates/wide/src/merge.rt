@@ -10,7 +10,6 @@ ghost use Rattle.wide.specs.Merging.{Addable, Merged, scaled_by};
 use crate::wide::Wide;
 use packed::term::Term;
 use packed::view::View;
-use std::cmp::Ordering;
 
 // How far a merge has come in its two lists.
 #[derive(Clone, Copy)]
@@ -50,28 +49,25 @@ fn merge_next(by: Term, polynomial: View, list: &Wide, out: &mut Wide, place: Pl
         };
     }
     let right = list.term(place.right);
-    match left.key.cmp(&right.key) {
-        Ordering::Less => {
-            out.push(left);
-            Place {
-                left: place.left + 1,
-                ..place
-            }
-        }
-        Ordering::Greater => {
-            out.push(right);
-            Place {
-                right: place.right + 1,
-                ..place
-            }
-        }
-        Ordering::Equal => {
-            push_sum(left, right, out);
-            Place {
-                left: place.left + 1,
-                right: place.right + 1,
-            }
-        }
+    // Two tests: a `match` on the order of the keys takes a quarter more instructions in a product.
+    if left.key < right.key {
+        out.push(left);
+        return Place {
+            left: place.left + 1,
+            ..place
+        };
+    }
+    if right.key < left.key {
+        out.push(right);
+        return Place {
+            right: place.right + 1,
+            ..place
+        };
+    }
+    push_sum(left, right, out);
+    Place {
+        left: place.left + 1,
+        right: place.right + 1,
     }
 }
 

@@ -1,6 +1,5 @@
 -- The lower key comes first, and monomials with one key are added.
-use Rattle.std.proofs.Common.{◌≡◌, ℕ, ◌+◌, ◌^◌, ◌<◌, [], ◌∷◌, ◌++◌, length, ◌+ℤ◌, ◌*ℤ◌, nat_cmp, Less, Equal, Greater, sym, ap, ◌∙◌, subst, ap₂, arith}
-use Rattle.std.proofs.lemmas.Bool.Decides.{nat_tests}
+use Rattle.std.proofs.Common.{◌≡◌, ℕ, ◌+◌, ◌^◌, ◌<◌, [], ◌∷◌, ◌++◌, length, ◌+ℤ◌, ◌*ℤ◌, sym, ap, ◌∙◌, subst, ap₂, arith}
 use Rattle.poly.specs.Modest.{magnitude}
 use Rattle.terms.specs.Monomial.{Monomial, monomial}
 use Rattle.terms.specs.Operations.{put_term}
@@ -12,15 +11,6 @@ use Rattle.wide.specs.Merging.{scaled_by}
 use Rattle.wide.proofs.Bounds.{product-fits, pair_fits, scaled_term}
 use Rattle.wide.proofs.Merging.{merged_end, merged_left, merged_right, merged_both}
 use Rattle.wide.proofs.merge.merge_next.Goals as goal
-
-cmp-less : (a b : ℕ) → nat_cmp a b ≡ Less → a < b
-cmp-less a b e = grind (arith, nat_tests)
-
-cmp-greater : (a b : ℕ) → nat_cmp a b ≡ Greater → b < a
-cmp-greater a b e = grind (arith, nat_tests)
-
-cmp-equal : (a b : ℕ) → nat_cmp a b ≡ Equal → a ≡ b
-cmp-equal a b e = grind (arith, nat_tests)
 
 pub term-requires : goal.term-requires
 term-requires c = omega (arith, c.requires.left, length_scaled c.args.by.key c.args.by.coefficient (terms_in c.args.polynomial))
@@ -50,8 +40,8 @@ returns-then-place-len c =
     merged_end p q c.args.place.left c.args.place.right (written c.args.out.now) c.requires.short _
     (c.push.ensures ∙ ap (λ m. written c.args.out.now ++ m ∷ []) left) c.requires.left (c.if-place-len.true ∙ c.len.ensures)
 
-pub push-requires-in-Less : goal.push-requires-in-Less
-push-requires-in-Less c =
+pub push-requires-then-left-right : goal.push-requires-then-left-right
+push-requires-then-left-right c =
     let p = scaled_by c.args.by c.args.polynomial in
     let q = written c.args.list.now in
     let left = scaled_term c.args.by c.args.polynomial c.args.place.left c.term.result c.scaled-left.result c.requires.left c.term.ensures.value c.scaled-left.ensures in (
@@ -59,35 +49,33 @@ push-requires-in-Less c =
       omega (arith, ap (λ m. m.key) left, key_at (2 ^ 63) p c.args.place.left c.requires.fits.keys_left c.requires.left),
     )
 
-pub returns-in-Less : goal.returns-in-Less
-returns-in-Less c =
+pub returns-then-left-right : goal.returns-then-left-right
+returns-then-left-right c =
     let p = scaled_by c.args.by c.args.polynomial in
     let q = written c.args.list.now in
     let left = scaled_term c.args.by c.args.polynomial c.args.place.left c.term.result c.scaled-left.result c.requires.left c.term.ensures.value c.scaled-left.ensures in
     let j : c.args.place.right < length q = omega (arith, c.len.ensures, c.if-place-len.false, c.requires.right) in
-    let less : c.scaled-left.result.key < c.term-right.result.key = cmp-less _ _ (sym c.in-Less.ensures) in
     merged_left p q c.args.place.left c.args.place.right (written c.args.out.now) c.requires.short _
-    (c.push-in-Less.ensures ∙ ap (λ m. written c.args.out.now ++ m ∷ []) left) c.requires.left j
-    (omega (arith, ap (λ m. m.key) left, ap (λ m. m.key) c.term-right.ensures, less))
+    (c.push-then-left-right.ensures ∙ ap (λ m. written c.args.out.now ++ m ∷ []) left) c.requires.left j
+    (omega (arith, ap (λ m. m.key) left, ap (λ m. m.key) c.term-right.ensures, c.if-left-right.true))
 
-pub push-requires-in-Greater : goal.push-requires-in-Greater
-push-requires-in-Greater c =
+pub push-requires-then-right-left : goal.push-requires-then-right-left
+push-requires-then-right-left c =
     let q = written c.args.list.now in
     let j : c.args.place.right < length q = omega (arith, c.len.ensures, c.if-place-len.false, c.requires.right) in (
       omega (arith, c.requires.left, c.requires.right, c.requires.short, c.requires.fits.room),
       omega (arith, ap (λ m. m.key) c.term-right.ensures, key_at (2 ^ 63) q c.args.place.right c.requires.fits.keys_right j),
     )
 
-pub returns-in-Greater : goal.returns-in-Greater
-returns-in-Greater c =
+pub returns-then-right-left : goal.returns-then-right-left
+returns-then-right-left c =
     let p = scaled_by c.args.by c.args.polynomial in
     let q = written c.args.list.now in
     let left = scaled_term c.args.by c.args.polynomial c.args.place.left c.term.result c.scaled-left.result c.requires.left c.term.ensures.value c.scaled-left.ensures in
     let j : c.args.place.right < length q = omega (arith, c.len.ensures, c.if-place-len.false, c.requires.right) in
-    let less : c.term-right.result.key < c.scaled-left.result.key = cmp-greater _ _ (sym c.in-Greater.ensures) in
     merged_right p q c.args.place.left c.args.place.right (written c.args.out.now) c.requires.short _
-    (c.push-in-Greater.ensures ∙ ap (λ m. written c.args.out.now ++ m ∷ []) c.term-right.ensures) c.requires.left j
-    (omega (arith, ap (λ m. m.key) left, ap (λ m. m.key) c.term-right.ensures, less))
+    (c.push-then-right-left.ensures ∙ ap (λ m. written c.args.out.now ++ m ∷ []) c.term-right.ensures) c.requires.left j
+    (omega (arith, ap (λ m. m.key) left, ap (λ m. m.key) c.term-right.ensures, c.if-right-left.true))
 
 pub push_sum-requires : goal.push_sum-requires
 push_sum-requires c =
@@ -103,15 +91,14 @@ push_sum-requires c =
       size = subst Small (ap magnitude (sym (ap₂ ◌+ℤ◌ (ap (λ m. m.times) left) (ap (λ m. m.times) c.term-right.ensures)))) f.size;
     }
 
-pub returns-in-Equal : goal.returns-in-Equal
-returns-in-Equal c =
+pub returns : goal.returns
+returns c =
     let p = scaled_by c.args.by c.args.polynomial in
     let q = written c.args.list.now in
     let left = scaled_term c.args.by c.args.polynomial c.args.place.left c.term.result c.scaled-left.result c.requires.left c.term.ensures.value c.scaled-left.ensures in
     let j : c.args.place.right < length q = omega (arith, c.len.ensures, c.if-place-len.false, c.requires.right) in
-    let same : c.scaled-left.result.key ≡ c.term-right.result.key = cmp-equal _ _ (sym c.in-Equal.ensures) in
     merged_both p q c.args.place.left c.args.place.right (written c.args.out.now) c.requires.short _
     (c.push_sum.ensures ∙
     ap (λ m. written c.args.out.now ++ put_term m [])
     (ap₂ monomial (ap (λ m. m.key) left) (ap₂ ◌+ℤ◌ (ap (λ m. m.times) left) (ap (λ m. m.times) c.term-right.ensures))))
-    c.requires.left j (sym (ap (λ m. m.key) left) ∙ same ∙ ap (λ m. m.key) c.term-right.ensures)
+    c.requires.left j (omega (arith, ap (λ m. m.key) left, ap (λ m. m.key) c.term-right.ensures, c.if-left-right.false, c.if-right-left.false))

@@ -1,5 +1,5 @@
 -- One merge for each monomial of the stretch, from the last to the first.
-use Rattle.std.proofs.Common.{[], ◌∷◌, ◌++◌, sym, ap, ◌∙◌, append-nil, append_assoc}
+use Rattle.std.proofs.Common.{[], ◌∷◌, ◌++◌, sym, ap, ◌∙◌, append-nil, append_assoc, arith}
 use Rattle.terms.specs.Operations.{add_product}
 use Rattle.packed.specs.Terms.{terms_in, monomial_in}
 use Rattle.packed.specs.StretchTerms.{stretch_terms}
@@ -12,7 +12,7 @@ pub loop-term-init : goal.loop-term-init
 loop-term-init c = (
   [],
   append-nil _ ∙ ap (λ r. r.iter) c.into_iter-term-iterator.ensures.into_iter_gives ∙ c.rev-term-items.ensures.source ∙ c.terms.ensures,
-  sym (product_none (terms_in c.args.polynomial) (written c.args.self.now.front)),
+  sym (product_none [] (terms_in c.args.polynomial) (written c.args.self.now.front) 0 (omega arith)),
 )
 
 -- the last of those that are left stands before those that are done
