@@ -20,12 +20,11 @@ use Rattle.stacks.specs.declared.marks.Question.{Question}
 use Rattle.stacks.specs.Values.{left_in, fact_in, question_in}
 use Rattle.stacks.specs.Slots.{slot_in}
 use Rattle.stacks.specs.Memories.{Cells, poly_of, left_from, fact_from, question_from, exploring, marks_from, memory_of}
-use Rattle.table_machine.specs.declared.facing.Facing.{Facing}
 use Rattle.table_machine.specs.Cells.{rewritten}
 use Rattle.table_machine.specs.Settling.{Settles}
-use Rattle.table_machine.specs.Moving.{current_poly, current_known, Moves, PassesZero, one_fact, Explores, Finishes}
+use Rattle.table_machine.specs.Moving.{current_poly, current_known, PassesZero, one_fact, Explores, Finishes}
 
-agree : (n : ℕ) (trees : Tree → sign.Tree) (c : Cells) (lefts facts questions : List ℤ) (m : Marks) (k : ℕ) →
+pub agree : (n : ℕ) (trees : Tree → sign.Tree) (c : Cells) (lefts facts questions : List ℤ) (m : Marks) (k : ℕ) →
     ((i : ℕ) → i < m.base + m.done → left_in lefts i ≡ left_in c.lefts i) →
     ((i : ℕ) → i < m.facts → fact_in facts i ≡ fact_in c.facts i) →
     ((i : ℕ) → i < k → question_in questions i ≡ question_in c.questions i) →
@@ -39,55 +38,54 @@ agree n trees c lefts facts questions m k l f q =
       questions = λ i h. ap (question_from n trees c.slots) (q i h);
     }
 
-pub moves_zero : (n : ℕ) (c : Cells) (f : Facing) (lefts : List ℤ) (g : Facing) → 0 < f.marks.looks → 0 < f.marks.ahead → is_zero (current_poly n c.slots f.marks) ≡ true →
-    PassesZero n c f.marks lefts g.marks → g.pending ≡ f.pending → Moves n c f (rewritten c lefts c.facts c.questions) g 0
-moves_zero n c f lefts g looks ahead z p q trees run sound =
-    let m = f.marks in
+-- a step between marks, which need not fit, with so many questions open before and after
+abbrev pub MovesBetween : ℕ → Cells → Marks → (pending : ℕ) → Cells → Marks → (pending : ℕ) → (asked : ℕ) → Type 0
+MovesBetween n c m k d r j asked = (trees : Tree → sign.Tree) (run : Run) → Sound (memory_of n trees c) (stack.Facing (marks_from n c.slots m) k) →
+    Advances run n (memory_of n trees c) (stack.Facing (marks_from n c.slots m) k) (memory_of n trees d) (stack.Facing (marks_from n d.slots r) j) asked nothing_more
+
+pub moves_zero : (n : ℕ) (c : Cells) (m : Marks) (k : ℕ) (lefts : List ℤ) (r : Marks) (j : ℕ) → 0 < m.looks → 0 < m.ahead → is_zero (current_poly n c.slots m) ≡ true →
+    PassesZero n c m lefts r → j ≡ k → MovesBetween n c m k (rewritten c lefts c.facts c.questions) r j 0
+moves_zero n c m k lefts r j looks ahead z p q trees run sound =
     let new = memory_of n trees (rewritten c lefts c.facts c.questions) in
     let next = poly_of n (slot_in c.slots (m.base + (m.done + 1))) in
     let done : m.done + 1 ≡ suc m.done = omega arith in
     let untouched : Untouched new (passed next (marks_from n c.slots m)) = λ h. ap (λ d. poly_of n (slot_in c.slots (m.base + d))) done in
-    subst (λ x. Advances run n (memory_of n trees c) (stack.Facing (marks_from n c.slots m) f.pending) new x 0 nothing_more) (ap₂ stack.Facing (sym p.marks) (sym q))
-    (stacks_mirror.passes_zero run n (memory_of n trees c) new (marks_from n c.slots m) f.pending sound
-    (agree n trees c lefts c.facts c.questions m f.pending p.kept (λ i h. refl) (λ i h. refl)) looks ahead z p.written next untouched)
+    subst (λ x. Advances run n (memory_of n trees c) (stack.Facing (marks_from n c.slots m) k) new x 0 nothing_more) (ap₂ stack.Facing (sym p.marks) (sym q))
+    (stacks_mirror.passes_zero run n (memory_of n trees c) new (marks_from n c.slots m) k sound
+    (agree n trees c lefts c.facts c.questions m k p.kept (λ i h. refl) (λ i h. refl)) looks ahead z p.written next untouched)
 
-pub moves-known : (n : ℕ) (c : Cells) (f : Facing) (s : Sign) (lefts : List ℤ) (g : Facing) → 0 < f.marks.looks → 0 < f.marks.ahead → is_zero (current_poly n c.slots f.marks) ≡ false →
-    Is s ≡ current_known n c.slots c.facts f.marks → Settles n c f.marks s lefts g.marks → g.pending ≡ f.pending → Moves n c f (rewritten c lefts c.facts c.questions) g 0
-moves-known n c f s lefts g looks ahead z t p q trees run sound =
-    let m = f.marks in
+pub moves-known : (n : ℕ) (c : Cells) (m : Marks) (k : ℕ) (s : Sign) (lefts : List ℤ) (r : Marks) (j : ℕ) → 0 < m.looks → 0 < m.ahead → is_zero (current_poly n c.slots m) ≡ false →
+    Is s ≡ current_known n c.slots c.facts m → Settles n c m s lefts r → j ≡ k → MovesBetween n c m k (rewritten c lefts c.facts c.questions) r j 0
+moves-known n c m k s lefts r j looks ahead z t p q trees run sound =
     let new = memory_of n trees (rewritten c lefts c.facts c.questions) in
-    subst (λ x. Advances run n (memory_of n trees c) (stack.Facing (marks_from n c.slots m) f.pending) new x 0 nothing_more) (ap₂ stack.Facing (sym p.marks) (sym q))
-    (stacks_mirror.passes_known run n (memory_of n trees c) new (marks_from n c.slots m) f.pending sound
-    (agree n trees c lefts c.facts c.questions m f.pending p.kept (λ i h. refl) (λ i h. refl)) looks ahead z s (sym t) p.next (p.written trees c.facts c.questions))
+    subst (λ x. Advances run n (memory_of n trees c) (stack.Facing (marks_from n c.slots m) k) new x 0 nothing_more) (ap₂ stack.Facing (sym p.marks) (sym q))
+    (stacks_mirror.passes_known run n (memory_of n trees c) new (marks_from n c.slots m) k sound
+    (agree n trees c lefts c.facts c.questions m k p.kept (λ i h. refl) (λ i h. refl)) looks ahead z s (sym t) p.next (p.written trees c.facts c.questions))
 
 one-fact : (n : ℕ) (slots : List ℤ) (m : Marks) → marks_from n slots (one_fact m) ≡ with_one_fact (marks_from n slots m)
 one-fact n slots m =
     let fact : m.facts + 1 ≡ suc m.facts = omega arith in
     λ i. stack.Marked m.looks m.base m.done m.ahead (current_poly n slots m) (fact i) m.frames
 
-pub moves-asked : (n : ℕ) (c : Cells) (f : Facing) (d : Cells) (g : Facing) → 0 < f.marks.looks → 0 < f.marks.ahead → is_zero (current_poly n c.slots f.marks) ≡ false →
-    current_known n c.slots c.facts f.marks ≡ Unknown → Explores n c f.marks (f.pending + 1 - 1) Above Pos d g.marks → g.pending ≡ f.pending + 1 → Moves n c f d g 1
-moves-asked n c f d g looks ahead z t asked q =
-    let m = f.marks in
-    let k = f.pending in
-    let same : k + 1 - 1 ≡ k = omega arith in
-    let x : Explores n c m k Above Pos d g.marks = subst (λ k. Explores n c m k Above Pos d g.marks) same asked in
-    subst (λ e. Moves n c f e g 1) (sym x.rest) (λ trees run sound.
+pub moves-asked : (n : ℕ) (c : Cells) (m : Marks) (k : ℕ) (d : Cells) (r : Marks) (j : ℕ) → 0 < m.looks → 0 < m.ahead → is_zero (current_poly n c.slots m) ≡ false →
+    current_known n c.slots c.facts m ≡ Unknown → Explores n c m k Above Pos d r → j ≡ k + 1 → MovesBetween n c m k d r j 1
+moves-asked n c m k d r j looks ahead z t x q =
+    subst (λ e. MovesBetween n c m k e r j 1) (sym x.rest) (λ trees run sound.
     let lefts = d.lefts in
     let facts = d.facts in
     let questions = d.questions in
     let p = x.settles in
     let new = memory_of n trees (rewritten c lefts facts questions) in
     let old = marks_from n c.slots m in
-    let more : suc k ≡ g.pending = omega arith in
-    let marks : signed p.next Pos (with_one_fact old) ≡ marks_from n c.slots g.marks = ap (signed p.next Pos) (sym (one-fact n c.slots m)) ∙ sym p.marks in
-    let both : stack.Facing (signed p.next Pos (with_one_fact old)) (suc k) ≡ stack.Facing (marks_from n c.slots g.marks) g.pending = ap₂ stack.Facing marks more in
+    let more : suc k ≡ j = omega arith in
+    let marks : signed p.next Pos (with_one_fact old) ≡ marks_from n c.slots r = ap (signed p.next Pos) (sym (one-fact n c.slots m)) ∙ sym p.marks in
+    let both : stack.Facing (signed p.next Pos (with_one_fact old)) (suc k) ≡ stack.Facing (marks_from n c.slots r) j = ap₂ stack.Facing marks more in
     subst (λ y. Advances run n (memory_of n trees c) (stack.Facing old k) new y 1 nothing_more) both
     (stacks_mirror.asks run n (memory_of n trees c) new old k sound (agree n trees c lefts facts questions m k p.kept x.fact.under x.question.under) looks ahead z t
     (ap (question_from n trees c.slots) x.question.there) (ap (fact_from n c.slots) x.fact.there) p.next (p.written trees facts questions)))
 
 -- the last question's branch above is finished
-returns_above : (n : ℕ) (c : Cells) (t : Tree) (q : Question) (k : ℕ) (d : Cells) (r : Marks) → q ≡ question_in c.questions k → q.branch ≡ Above →
+pub returns_above : (n : ℕ) (c : Cells) (t : Tree) (q : Question) (k : ℕ) (d : Cells) (r : Marks) → q ≡ question_in c.questions k → q.branch ≡ Above →
     Explores n c q.marks k (At t) Zero d r → (trees : Tree → sign.Tree) (run : Run) → Sound (memory_of n trees c) (stack.Holding (trees t) (suc k)) →
     Advances run n (memory_of n trees c) (stack.Holding (trees t) (suc k)) (memory_of n trees d) (stack.Facing (marks_from n d.slots r) (suc k)) 0 nothing_more
 returns_above n c t q k d r e b x trees run sound =
@@ -104,7 +102,7 @@ returns_above n c t q k d r e b x trees run sound =
     (agree n trees c d.lefts d.facts d.questions m k p.kept x.fact.under x.question.under)
     (ap (question_from n trees c.slots) x.question.there) (ap (fact_from n c.slots) x.fact.there)))
 
-returns_at : (n : ℕ) (c : Cells) (t above : Tree) (q : Question) (k : ℕ) (d : Cells) (r : Marks) → q ≡ question_in c.questions k → q.branch ≡ At above →
+pub returns_at : (n : ℕ) (c : Cells) (t above : Tree) (q : Question) (k : ℕ) (d : Cells) (r : Marks) → q ≡ question_in c.questions k → q.branch ≡ At above →
     Explores n c q.marks k (Below t above) Neg d r → (trees : Tree → sign.Tree) (run : Run) → Sound (memory_of n trees c) (stack.Holding (trees t) (suc k)) →
     Advances run n (memory_of n trees c) (stack.Holding (trees t) (suc k)) (memory_of n trees d) (stack.Facing (marks_from n d.slots r) (suc k)) 0 nothing_more
 returns_at n c t above q k d r e b x trees run sound =
@@ -122,21 +120,21 @@ returns_at n c t above q k d r e b x trees run sound =
     (ap (question_from n trees c.slots) x.question.there) (ap (fact_from n c.slots) x.fact.there) p.next (p.written trees d.facts d.questions)))
 
 -- the same by how many questions are open
-module _ (n : ℕ) (c : Cells) (t : Tree) (q : Question) (pending : ℕ) (d : Cells) (g : Facing) (some : 0 < pending) (is : q ≡ question_in c.questions (pending - 1)) (same : g.pending ≡ pending) where
+module _ (n : ℕ) (c : Cells) (t : Tree) (q : Question) (pending : ℕ) (d : Cells) (r : Marks) (after : ℕ) (some : 0 < pending) (is : q ≡ question_in c.questions (pending - 1)) (same : after ≡ pending) where
   abbrev Goes : ℕ → ℕ → Type 0
   Goes k j = (trees : Tree → sign.Tree) (run : Run) → Sound (memory_of n trees c) (stack.Holding (trees t) k) →
-      Advances run n (memory_of n trees c) (stack.Holding (trees t) k) (memory_of n trees d) (stack.Facing (marks_from n d.slots g.marks) j) 0 nothing_more
+      Advances run n (memory_of n trees c) (stack.Holding (trees t) k) (memory_of n trees d) (stack.Facing (marks_from n d.slots r) j) 0 nothing_more
 
-  moved : Goes (suc (pending - 1)) (suc (pending - 1)) → Goes pending g.pending
+  moved : Goes (suc (pending - 1)) (suc (pending - 1)) → Goes pending after
   moved h =
       let k : suc (pending - 1) ≡ pending = omega arith in
       subst (Goes pending) (sym same) (subst (λ k. Goes k k) k h)
 
-  pub returned_above : q.branch ≡ Above → Explores n c q.marks (pending - 1) (At t) Zero d g.marks → Goes pending g.pending
-  returned_above b x = moved (returns_above n c t q (pending - 1) d g.marks is b x)
+  pub returned_above : q.branch ≡ Above → Explores n c q.marks (pending - 1) (At t) Zero d r → Goes pending after
+  returned_above b x = moved (returns_above n c t q (pending - 1) d r is b x)
 
-  pub returned_at : (above : Tree) → q.branch ≡ At above → Explores n c q.marks (pending - 1) (Below t above) Neg d g.marks → Goes pending g.pending
-  returned_at above b x = moved (returns_at n c t above q (pending - 1) d g.marks is b x)
+  pub returned_at : (above : Tree) → q.branch ≡ At above → Explores n c q.marks (pending - 1) (Below t above) Neg d r → Goes pending after
+  returned_at above b x = moved (returns_at n c t above q (pending - 1) d r is b x)
 
 pub finishes : (n : ℕ) (c : Cells) (t : Tree) (pending : ℕ) → 0 < pending → Finishes n c t pending
 finishes n c t pending l at above b trees run =

@@ -54,14 +54,14 @@ left_real : (k : ℕ) (p : Poly) (s : Sign) → 0 < k → left_with k p s ≡ Re
 left_real zero p s h = absurd (omega arith)
 left_real (suc k) p s h = refl
 
-plain-passed : (n : ℕ) (c : Cells) (m : Marks) (i : ℕ) → i < m.done → (left_in c.lefts (m.base + i)).count ≡ 0 → reals_from n c m (i + 1) ≡ reals_from n c m i
+pub plain-passed : (n : ℕ) (c : Cells) (m : Marks) (i : ℕ) → i < m.done → (left_in c.lefts (m.base + i)).count ≡ 0 → reals_from n c m (i + 1) ≡ reals_from n c m i
 plain-passed n c m i h z =
     let l = left_in c.lefts (m.base + i) in
     let p = front_poly n c.slots (m.base + i) l.count in
     let rest = forth (table_left n c m) (i + 1) (m.done - (i + 1)) in
     sym (ap reals (forth_more (table_left n c m) i m.done h) ∙ ap (λ v. reals (v ∷ rest)) (left_plain l.count p l.sign z) ∙ reals-plain l.sign rest)
 
-real_here : (n : ℕ) (c : Cells) (m : Marks) (i : ℕ) → i < m.done → 0 < (left_in c.lefts (m.base + i)).count → reals_from n c m i ≡ table_left n c m i ∷ reals_from n c m (i + 1)
+pub real_here : (n : ℕ) (c : Cells) (m : Marks) (i : ℕ) → i < m.done → 0 < (left_in c.lefts (m.base + i)).count → reals_from n c m i ≡ table_left n c m i ∷ reals_from n c m (i + 1)
 real_here n c m i h z =
     let l = left_in c.lefts (m.base + i) in
     let p = front_poly n c.slots (m.base + i) l.count in
@@ -69,7 +69,7 @@ real_here n c m i h z =
     let e = left_real l.count p l.sign z in
     ap reals (forth_more (table_left n c m) i m.done h) ∙ ap (λ v. reals (v ∷ rest)) e ∙ reals_real p l.sign rest ∙ ap (λ v. v ∷ reals rest) (sym e)
 
-none_after : (n : ℕ) (c : Cells) (m : Marks) → reals_from n c m m.done ≡ []
+pub none_after : (n : ℕ) (c : Cells) (m : Marks) → reals_from n c m m.done ≡ []
 none_after n c m = let e : m.done - m.done ≡ 0 = omega arith in ap (λ k. reals (forth (table_left n c m) m.done k)) e ∙ none
   where
     none : reals (forth (table_left n c m) m.done 0) ≡ []
@@ -108,7 +108,7 @@ highest_cons : (count b d : ℕ) (l : Left) (ls : List Left) (t : Bool) → ltb 
 unfolding highest
 highest_cons count b d l ls t e = ap (λ t. elim t as (λ _. ℕ) [ true ↦ highest (count + 1) count (degree (poly_of l)) ls | false ↦ highest (count + 1) b d ls ]) e
 
-highest-next : (n : ℕ) (c : Cells) (m : Marks) (count i : ℕ) (t : Top) → Highest n c m count i t → i < m.done → 0 < (left_in c.lefts (m.base + i)).count →
+pub highest-next : (n : ℕ) (c : Cells) (m : Marks) (count i : ℕ) (t : Top) → Highest n c m count i t → i < m.done → 0 < (left_in c.lefts (m.base + i)).count →
     Highest n c m (count + 1) (i + 1) (higher_of n c m (Some t) i count)
 highest-next n c m count i t h l r = by (ltb t.degree (degree (poly_of (table_left n c m i)))) refl (real_here n c m i l r)
   where
@@ -149,7 +149,7 @@ highest-next n c m count i t h l r = by (ltb t.degree (degree (poly_of (table_le
           few = omega (arith, h.few);
         }
 
-highest_found : (n : ℕ) (c : Cells) (m : Marks) (count i : ℕ) (t : Top) → Highest n c m count i t → i ≡ m.done → FoundHighest n c m (Some t)
+pub highest_found : (n : ℕ) (c : Cells) (m : Marks) (count i : ℕ) (t : Top) → Highest n c m count i t → i ≡ m.done → FoundHighest n c m (Some t)
 highest_found n c m count i t h e =
     let none : reals_from n c m i ≡ [] = ap (reals_from n c m) e ∙ none_after n c m in (
       h.first,

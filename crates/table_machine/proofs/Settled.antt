@@ -26,7 +26,7 @@ use Rattle.table_machine.specs.Told.{front_terms}
 use Rattle.table_machine.specs.Settling.{Settles, next_marks, shorter_marks, left_count}
 use Rattle.table_machine.proofs.Telling.{front-denotes}
 
-less_one-is : (k : ℕ) → k - 1 ≡ less_one k
+pub less_one-is : (k : ℕ) → k - 1 ≡ less_one k
 less_one-is zero = omega arith
 less_one-is (suc k) = omega arith
 
@@ -48,7 +48,7 @@ shorter_terms n slots i count =
     let l : k ≤ count = omega arith in
     take-monomials (slot_in slots i) k ∙ sym (take-take k count all l) ∙ ap (take k) (sym e) ∙ take-length j ts
 
-shorter-poly : (n : ℕ) (slots : List ℤ) (i count : ℕ) → AllHold n slots →
+pub shorter-poly : (n : ℕ) (slots : List ℤ) (i count : ℕ) → AllHold n slots →
     front_poly n slots i (length (prefix_terms n (front_terms slots i count))) ≡ without_leading (front_poly n slots i count)
 shorter-poly n slots i count h =
     ap (spelt (suc n)) (shorter_terms n slots i count) ∙

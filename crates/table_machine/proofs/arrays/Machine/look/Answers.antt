@@ -11,7 +11,7 @@ returns-then-is_zero-clause-looks c =
       asked = 0;
       counted = omega arith;
       moves = subst (λ d. Moves self.others.count (cells_of self) c.args.at d c.pass_zero.result 0) (sym c.pass_zero.ensures.rest)
-          (moves_zero self.others.count (cells_of self) c.args.at c.pass_zero.new.self.lefts.now c.pass_zero.result
+          (moves_zero self.others.count (cells_of self) c.args.at.marks c.args.at.pending c.pass_zero.new.self.lefts.now c.pass_zero.result.marks c.pass_zero.result.pending
           c.requires.some.0 c.requires.some.1 (sym c.if-is_zero.ensures) c.pass_zero.ensures.passes c.pass_zero.ensures.pending);
     }
 
@@ -22,6 +22,6 @@ returns-in-Some-clause-looks c =
       asked = 0;
       counted = omega arith;
       moves = subst (λ d. Moves self.others.count (cells_of self) c.args.at d c.settle.result 0) (sym c.settle.ensures.rest)
-          (moves-known self.others.count (cells_of self) c.args.at c.in-Some.sign c.settle.new.self.lefts.now c.settle.result
+          (moves-known self.others.count (cells_of self) c.args.at.marks c.args.at.pending c.in-Some.sign c.settle.new.self.lefts.now c.settle.result.marks c.settle.result.pending
           c.requires.some.0 c.requires.some.1 (sym c.if-is_zero.ensures) c.in-Some.ensures c.settle.ensures.settles c.settle.ensures.pending);
     }
