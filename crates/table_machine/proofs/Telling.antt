@@ -1,7 +1,7 @@
 -- What facts tell, by the monomials of what they are about. Assumes nothing.
 use denote.Param.Members.{Mut, Called}
 use Rattle.std.specs.Iterator.Runs.{Run, CallKeepsClosure, AllItemsGive, IsFirstToGive, IsIdenticalRun, ItemsCountDown}
-use Rattle.std.proofs.Common.{◌≡◌, ℕ, zero, suc, ◌+◌, ◌-◌, ◌<◌, ◌≤◌, Bool, true, false, List, [], ◌∷◌, length, ℤ, Option, Some, None, add-zero, MatchOption, IfSome, IsSomeAnd, IsTrue, option_map, sym, refl, ap, ◌∙◌, subst, ap₂, arith}
+use Rattle.std.proofs.Common.{◌≡◌, ℕ, zero, suc, ◌+◌, ◌-◌, ◌<◌, ◌≤◌, Bool, true, false, List, [], ◌∷◌, length, take, ℤ, Option, Some, None, add-zero, MatchOption, IfSome, IsSomeAnd, IsTrue, option_map, sym, refl, ap, ◌∙◌, subst, ap₂, arith}
 use Rattle.field.specs.declared.sign.Sign.{Sign}
 use Rattle.field.specs.declared.sign.Sign.TheVariants.{Zero}
 use Rattle.field.specs.Sign.{flip, sign_of}
@@ -11,6 +11,7 @@ use Rattle.poly.specs.Leading.{leading}
 use Rattle.terms.specs.Monomial.{Monomial}
 use Rattle.terms.specs.Operations.{same_terms, neg_terms, number_terms, is_zero_terms}
 use Rattle.terms.proofs.Laws.{flat_laws}
+use Rattle.packed.specs.Stored.{Stored}
 use Rattle.storage.specs.Denoting.{Denotes}
 use Rattle.storage.proofs.Denoting.{denoting_laws}
 use Rattle.sign_table.specs.Facts as table
@@ -24,6 +25,10 @@ use Rattle.table_machine.specs.Told.{known_of, told_by, front_terms, leading_fro
 
 pub front-denotes : (n : ℕ) (slots : List ℤ) (i count : ℕ) → AllHold n slots → Denotes (suc n) (front_terms slots i count) (front_poly n slots i count)
 front-denotes n slots i count h = (slot_laws.front_holds n (slot_in slots i) count (h i)).denotes
+
+-- where every slot holds a polynomial, of however many variables, its first monomials are stored
+pub front_stored : (slots : List ℤ) (i count : ℕ) → (n : ℕ) × AllHold n slots → Stored (take count (slot_in slots i))
+front_stored slots i count (n, h) = (slot_laws.front_holds n (slot_in slots i) count (h i)).stored
 
 pub leading_denotes : (n : ℕ) (slots : List ℤ) (i count : ℕ) → AllHold n slots → Denotes n (leading_front n slots i count) (leading n (front_poly n slots i count))
 leading_denotes n slots i count h = denoting_laws.leading_denotes n (front_terms slots i count) (front_poly n slots i count) (front-denotes n slots i count h)

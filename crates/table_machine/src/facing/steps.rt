@@ -1,13 +1,16 @@
 // The first polynomial of a table, and the next one.
 ghost use Rattle.std.specs.Prelude.{◌≡◌, ℕ, ◌+◌, ◌<◌};
-ghost use Rattle.stacks.specs.Memories.{Cells};
+ghost use Rattle.packed.specs.Terms.{terms_in};
+ghost use Rattle.stacks.specs.Memories.{Cells, AllHold};
+ghost use Rattle.table_machine.specs.Told.{front_terms};
 ghost use Rattle.table_machine.specs.Settling.{next_marks};
 ghost use Rattle.table_machine.specs.Moving.{Begins};
 
 use super::Facing;
 use crate::front::Front;
+use packed::view::View;
 use stacks::marks::Marks;
-use stacks::slots::count_at;
+use stacks::slots::{count_at, view_at};
 
 impl Facing {
     // The table of the polynomials in the first `size` slots, at most 64, is begun.
@@ -54,5 +57,15 @@ impl Facing {
             slot: self.marks.base + self.marks.done,
             count: self.marks.count,
         }
+    }
+
+    // The same to be read, also where the polynomials have more variables than a machine's.
+    #[tactic(auto, using(crate::proofs::Telling::front_stored))]
+    pub fn current(self, slots: &[i64]) -> View
+        requires { (n : ℕ) × AllHold n slots.now }
+        ensures { terms_in result ≡ front_terms slots.now (self.marks.base + self.marks.done) self.marks.count }
+    {
+        let front = self.front();
+        view_at(slots, front.slot, front.count)
     }
 }
