@@ -1,5 +1,5 @@
 // A chain of tables, the innermost first: each takes the rows of the one before it, and a sink takes the last one's.
-ghost use Rattle.std.specs.Prelude.{◌≡◌, ◌≤◌, [], ◌∷◌, length, replicate};
+ghost use Rattle.std.specs.Prelude.{◌≡◌, [], ◌∷◌, length, drop, replicate};
 ghost use mathlib.Core.List.{foldl};
 ghost use Rattle.stream.specs.Stage.{Went, upon, outermost_rows};
 ghost use Rattle.stream.specs.Chain.{pushed, pushed_all, closed};
@@ -102,6 +102,8 @@ fn clear(cells: &mut [Cell])
 pub fn run<S: Sink>(tables: &mut Tables<'_>, sink: &mut S, row: &Signs) -> Result<(), Gap>
     ensures stages { tables.new.stages ≡ tables.old.stages }
     ensures lent { tables.new.cells.ghost_name ≡ tables.old.cells.ghost_name }
+    ensures long { length tables.new.cells.now ≡ length tables.old.cells.now }
+    ensures beyond { drop (length tables.old.stages.now) tables.new.cells.now ≡ drop (length tables.old.stages.now) tables.old.cells.now }
     ensures rows { ended result sink.new ≡ upon (outermost_rows (stages_of tables.old.stages.now) (signs_of row.now ∷ [])) (λ rows. Went (foldl S.Sink.grown sink.old rows)) }
 {
     let stages = tables.stages;

@@ -1,5 +1,5 @@
 // What is answered over all the rows of a chain's outermost table, to "some" or to "every".
-ghost use Rattle.std.specs.Prelude.{◌≡◌, List};
+ghost use Rattle.std.specs.Prelude.{◌≡◌, List, length, drop};
 ghost use Rattle.field.specs.declared.sign.Sign.{Sign as RowSign};
 ghost use Rattle.stream.specs.Chain.{run as chain_run};
 ghost use Rattle.stream.specs.Fold.{before as before_rows, joined};
@@ -57,6 +57,8 @@ pub fn over_rows<J: Judge + Drop>(
 ) -> Answer
     ensures stages { tables.new.stages ≡ tables.old.stages }
     ensures lent { tables.new.cells.ghost_name ≡ tables.old.cells.ghost_name }
+    ensures long { length tables.new.cells.now ≡ length tables.old.cells.now }
+    ensures beyond { drop (length tables.old.stages.now) tables.new.cells.now ≡ drop (length tables.old.stages.now) tables.old.cells.now }
     ensures rows { tree_of result ≡ answered (λ u. u) (chain_run (λ a s. joined (over_all quantifier) a (tree_of (J.Judge.says judge s))) (stages_of tables.old.stages.now) (before_rows (over_all quantifier)) (signs_of row.now)) }
 {
     let mut tally = Tally {

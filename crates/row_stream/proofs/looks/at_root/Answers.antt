@@ -20,5 +20,5 @@ returns c =
     let e : c.position.result ≡ position is_zero_sign c.args.signs.now =
     position_from_yields_List is_zero_sign _ _ c.position.result c.position.ensures.ran (YieldsList-from_slice c.args.signs.now cc) (λ x b q k. search (rules, tests))
     in
-    let g : c.copied.result ≡ slice_get c.args.remainders.now c.in_ok-zero.zero = c.copied.ensures ∙ copied_get c.args.remainders.now c.in_ok-zero.zero c.get.result c.get.ensures.lookup in
+    let g : c.copied.result ≡ slice_get c.args.remainders.now c.in_ok-zero.zero = search (rules, copied_get) in
     ap known_of g ∙ ap (λ i. known_of (remainder_at c.args.remainders.now i)) (sym c.in_ok-zero.was ∙ e) ∙ root_at_first c.args.signs.now c.args.remainders.now
