@@ -1,5 +1,5 @@
 -- The first zero among the signs of a row. Assumes nothing.
-use Rattle.std.proofs.Common.{◌≡◌, ℕ, suc, ◌+◌, ltb, arith, ap₂, length, Bool, true, false, cond, ◌||◌, List, [], ◌∷◌, Option, Some, None, refl, sym, ap, ◌∙◌, slice_get}
+use Rattle.std.proofs.Common.{◌≡◌, ℕ, suc, ◌+◌, ltb, arith, ap₂, length, take, Bool, true, false, cond, ◌||◌, List, [], ◌∷◌, Option, Some, None, refl, sym, ap, ◌∙◌, slice_get}
 use Rattle.std.specs.List.{list_any, position, position_or_len}
 use Rattle.std.specs.Option.{option_and_then, option_copied}
 use Rattle.std.specs.Slice.{IsItemAt}
@@ -10,6 +10,7 @@ use denote.Enum.Bare.{sameb}
 use Rattle.field.specs.contracts.sign.Sign.{the_type}
 use Rattle.field.specs.declared.sign.Sign.{Sign}
 use Rattle.field.specs.declared.sign.Sign.TheVariants.{Neg, Zero, Pos}
+use Rattle.sign_table.specs.Facts.{Is}
 use Rattle.sign_table.specs.Deduce.{is_zero_sign, any_zero, at_root}
 use Rattle.row_stream.specs.Known.{known_of}
 
@@ -51,6 +52,14 @@ root_at_first (x ∷ xs) [] = ap known_of (none_there (position is_zero_sign (x 
 root_at_first (Zero ∷ xs) (r ∷ rs) = ap known_of (at_once r rs (length xs))
 root_at_first (Neg ∷ xs) (r ∷ rs) = ap known_of (one_place_later r rs (position_or_len is_zero_sign xs) (length xs)) ∙ root_at_first xs rs
 root_at_first (Pos ∷ xs) (r ∷ rs) = ap known_of (one_place_later r rs (position_or_len is_zero_sign xs) (length xs)) ∙ root_at_first xs rs
+
+-- signs past the remainders change nothing
+pub root_beyond : (xs rs : List Sign) → at_root (take (length rs) xs) rs ≡ at_root xs rs
+unfolding at_root
+root_beyond [] [] = refl
+root_beyond [] (r ∷ rs) = refl
+root_beyond (x ∷ xs) [] = refl
+root_beyond (x ∷ xs) (r ∷ rs) = ap (λ k. cond (is_zero_sign x) (Is r) k) (root_beyond xs rs)
 
 -- what `get` gives, copied
 pub copied_get : (rs : List Sign) (i : ℕ) (r : Option (Bor Sign)) → IsItemAt rs i r → option_copied r ≡ slice_get rs i

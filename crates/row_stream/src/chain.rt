@@ -17,7 +17,8 @@ use crate::stage::Stage;
 use crate::tables::Tables;
 use field::sign::Sign;
 
-// A row is pushed into the innermost table; a stage without a cell is a gap.
+// A row is pushed into the innermost table.
+// Stages and cells are two slices, here and where the tables close: each table takes both apart, and a stage without a cell is a gap, so nothing is asked of their lengths.
 #[cycle(give_push)]
 #[tactic(auto, unfolding(stream::specs::Chain::pushed, stream::specs::Chain::pushed_all))]
 pub fn push<S: Sink>(

@@ -4,6 +4,7 @@ ghost use Rattle.sign_table.specs.Deduce.{any_zero, at_root, first_sign, without
 ghost use Rattle.stream.specs.Step.{way_between, point_stays};
 ghost use Rattle.row_stream.specs.Known.{known_of};
 
+use crate::signs::front;
 use field::sign::Sign;
 use stream::way::Way;
 
@@ -17,7 +18,10 @@ pub fn any_zero(signs: &[Sign]) -> bool
 pub fn at_root(signs: &[Sign], remainders: &[Sign]) -> Option<Sign>
     ensures { known_of result ≡ at_root signs.now remainders.now }
 {
-    let zero = signs.iter().position(|s| *s == Sign::Zero)?;
+    // signs that have no remainder are not walked
+    let zero = front(signs, remainders.len())
+        .iter()
+        .position(|s| *s == Sign::Zero)?;
     remainders.get(zero).copied()
 }
 
